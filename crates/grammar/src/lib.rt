@@ -1,0 +1,3 @@
+// The second stage of clearing: tokens become a tree.
+
+pub mod tree;

@@ -1,0 +1,1 @@
+// Facts on tests and options that the proofs of several crates cite. There is no code here.
