@@ -15,9 +15,10 @@ inside : (mem : List ℕ) (first len : ℕ) → first + len ≤ length mem → s
 inside mem first len h = cond-true (leb (first + len) (length mem)) (take len (drop first mem)) [] (le-leb (first + len) (length mem) h)
 
 pub stretch-reads : Stretch-reads
-stretch-reads mem first len h =
-    (ap length (inside mem first len h) ∙ length-take-le len (drop first mem) (omega (arith, length-drop first mem)),
-     λ k lt. ap (λ xs. getD xs k 0) (inside mem first len h) ∙ getD-take len (drop first mem) k 0 lt ∙ getD-drop first mem k 0)
+stretch-reads mem first len h = (
+  ap length (inside mem first len h) ∙ length-take-le len (drop first mem) (omega (arith, length-drop first mem)),
+  λ k lt. ap (λ xs. getD xs k 0) (inside mem first len h) ∙ getD-take len (drop first mem) k 0 lt ∙ getD-drop first mem k 0,
+)
 
 -- one stride more, wrapped or not
 stride-more : (start stride t : ℕ) → ((start + stride) % 2 ^ 32 + t) % 2 ^ 32 ≡ (start + (t + stride)) % 2 ^ 32

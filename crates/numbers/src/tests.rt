@@ -34,7 +34,14 @@ fn decimal_at_its_ends() -> Result<(), Fail> {
     let cases = [
         (0x9999_9999, 1, 0, 0x9999_9998, 0x9999_9999, false),
         (0, 1, 1, 0x9999_9999, 0, true),
-        (0x0009_9999, 0x0010_0000, 0x0019_9999, 0x9999_9999, 0x9990_0000, true),
+        (
+            0x0009_9999,
+            0x0010_0000,
+            0x0019_9999,
+            0x9999_9999,
+            0x9990_0000,
+            true,
+        ),
         (0x9999_9999, 0x9999_9999, 0x9999_9998, 0, 1, false),
     ];
     for (x, y, sum, difference, product, less) in cases {
@@ -44,12 +51,22 @@ fn decimal_at_its_ends() -> Result<(), Fail> {
         check_eq(Decimal.product(x, y), product)?;
         check_eq(Decimal.less(x, y), less)?;
     }
-    check(!Decimal.is_number(10) && !Decimal.is_number(0xa000_0000) && !Decimal.is_number(0xffff_ffff))
+    check(
+        !Decimal.is_number(10)
+            && !Decimal.is_number(0xa000_0000)
+            && !Decimal.is_number(0xffff_ffff),
+    )
 }
 
 #[test]
 fn words_written() -> Result<(), Fail> {
-    for (word, text) in [(0, "0"), (0x7fff_ffff, "2147483647"), (0x8000_0000, "-2147483648"), (0xffff_ffff, "-1"), (10, "10")] {
+    for (word, text) in [
+        (0, "0"),
+        (0x7fff_ffff, "2147483647"),
+        (0x8000_0000, "-2147483648"),
+        (0xffff_ffff, "-1"),
+        (10, "10"),
+    ] {
         check_eq(Binary.written(word).as_bytes(), text.as_bytes())?;
     }
     for (word, text) in [(0, "0"), (0x9999_9999, "99999999"), (0x0000_0100, "100")] {
@@ -64,7 +81,12 @@ fn literals_read() -> Result<(), Fail> {
     let cases = [
         ("0", Some(0), Some(0), Some(0)),
         ("07", Some(7), Some(7), Some(7)),
-        ("99999999", Some(99_999_999), Some(99_999_999), Some(0x9999_9999)),
+        (
+            "99999999",
+            Some(99_999_999),
+            Some(99_999_999),
+            Some(0x9999_9999),
+        ),
         ("100000000", Some(100_000_000), Some(100_000_000), None),
         ("2147483647", Some(2_147_483_647), Some(0x7fff_ffff), None),
         ("2147483648", Some(2_147_483_648), None, None),
