@@ -80,7 +80,9 @@ fn words_written() -> Result<(), Fail> {
 #[test]
 fn forms_from_bytes() -> Result<(), Fail> {
     for text in ["", "-7", "12345678901"] {
-        let form = Digits::from_bytes(text.as_bytes()).ok_or("refused")?;
+        let Some(form) = Digits::from_bytes(text.as_bytes()) else {
+            return Err(Fail::new(text));
+        };
         check_eq(form.as_bytes(), text.as_bytes())?;
     }
     check(Digits::from_bytes(b"123456789012").is_none())
