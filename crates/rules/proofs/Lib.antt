@@ -12,3 +12,7 @@ pub mod Numbers
 pub mod Reached
 pub mod Runs
 pub mod Decide
+pub mod Lists
+pub mod Listed
+pub mod Names
+pub mod Verdicts

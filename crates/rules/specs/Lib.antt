@@ -19,3 +19,4 @@ pub mod Runs
 pub mod Safety
 pub mod Decisions
 pub mod Confluence
+pub mod ListingLaws

@@ -4,4 +4,5 @@
 pub mod answers;
 pub mod confluence;
 pub mod decisions;
+pub mod listings;
 pub mod safety;
