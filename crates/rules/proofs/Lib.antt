@@ -16,3 +16,6 @@ pub mod Lists
 pub mod Listed
 pub mod Names
 pub mod Verdicts
+pub mod Looks
+pub mod Granting
+pub mod Chosen

@@ -20,3 +20,4 @@ pub mod Safety
 pub mod Decisions
 pub mod Confluence
 pub mod ListingLaws
+pub mod GrantLaws

@@ -4,5 +4,6 @@
 pub mod answers;
 pub mod confluence;
 pub mod decisions;
+pub mod grants;
 pub mod listings;
 pub mod safety;
