@@ -19,3 +19,5 @@ pub mod Verdicts
 pub mod Looks
 pub mod Granting
 pub mod Chosen
+pub mod Checked
+pub mod Denied

@@ -21,3 +21,6 @@ pub mod Decisions
 pub mod Confluence
 pub mod ListingLaws
 pub mod GrantLaws
+pub mod Cases
+pub mod Boards
+pub mod Denials
