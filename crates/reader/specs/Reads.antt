@@ -4,7 +4,7 @@ use mathlib.Core.List.{List, [], _∷_}
 use mathlib.Core.Bool.{Bool, cond}
 use Prim.Native.Nat.{ℕ, _+_}
 use lib.Dec.{eqb}
-use lib.ListN.{length, drop}
+use lib.ListN.{length, getD, drop}
 use Rattle.std.specs.declared.result.Result.{Result}
 use Rattle.std.specs.declared.result.Result.the-variants.{Ok, Err}
 use Rattle.reader.specs.declared.classes.Start.{Start}
@@ -16,10 +16,10 @@ use Rattle.reader.specs.declared.fault.Cause.the-variants.{NoToken}
 use Rattle.reader.specs.declared.token.Token.{Token}
 use Rattle.reader.specs.declared.token.Tag.{Tag}
 use Rattle.reader.specs.declared.token.Tag.the-variants.{
-  Name, OpenParen, CloseParen, OpenBrace, CloseBrace, Comma, Semicolon, Ampersand, Plus, Minus, Star, Less,
+  Name, OpenParen, CloseParen, OpenBrace, CloseBrace, Comma, Semicolon, Ampersand, Assign, Equals, Plus, Minus, Star, Less,
   Var, Next, Know, Take, If, Else, While, Par, Try, Catch, Throw, Proc, Main,
 }
-use Rattle.reader.specs.Tokens.{First, space, nothing, lexeme, Class, finish, same, blank, letter, digit, letter-or-digit, run, first}
+use Rattle.reader.specs.Tokens.{First, space, nothing, lexeme, Class, finish, same, blank, letter, digit, letter-or-digit, run, first, up-to, word-class}
 use Rattle.reader.specs.Views.{spelled, lexeme-of}
 
 -- the signs of one byte that begin no longer one
@@ -48,6 +48,14 @@ tag-in (t ∷ ts) w = cond (same w (spelled [] t)) t (tag-in ts w)
 
 abbrev pub word-tag : List ℕ → Tag
 word-tag w = tag-in word-tags w
+
+-- a word of letters and digits as a token
+abbrev pub word-first : List ℕ → First
+word-first w = up-to 16 (word-class w) w
+
+-- = or ==, by the byte after it
+abbrev pub equal-token : List ℕ → ℕ → Token
+equal-token text at = cond (eqb (getD text (at + 1) 0) 61) (record { tag = Equals; at = at; len = 2 }) (record { tag = Assign; at = at; len = 1 })
 
 -- where the next token begins: past the separators
 abbrev pub next-at : List ℕ → ℕ → ℕ
