@@ -1,4 +1,5 @@
 pub mod Firsts
+pub mod Nexts
 pub mod Parts
 pub mod Runs
 pub mod WordTests

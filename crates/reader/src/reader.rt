@@ -69,10 +69,13 @@ fn equal_at(text: &[u8], at: usize) -> Token
     requires { ⌜ at < length (now text) ⌝ }
     ensures { λ r. ⌜ r ≡ equal-token (now (text .entry)) at ⌝ }
 {
-    if at + 1 < text.len() && text[at + 1] == b'=' {
-        return Token { tag: Tag::Equals, at, len: 2 };
+    if at + 1 == text.len() {
+        return Token { tag: Tag::Assign, at, len: 1 };
     }
-    Token { tag: Tag::Assign, at, len: 1 }
+    match text[at + 1] as char {
+        '=' => Token { tag: Tag::Equals, at, len: 2 },
+        _ => Token { tag: Tag::Assign, at, len: 1 },
+    }
 }
 
 // The token that begins at an index where no separator stands.
