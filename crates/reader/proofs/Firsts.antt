@@ -144,7 +144,7 @@ by-tests b bs x y z =
     ]
 
 module _ (b : ℕ) (bs : List ℕ) where
-  first-space : blank b ≡ true → first b bs ≡ space
+  pub first-space : blank b ≡ true → first b bs ≡ space
   first-space e = ap (λ (x : Bool). by-tests b bs x (letter b) (digit b)) e
 
   first-word : blank b ≡ false → letter b ≡ true → first b bs ≡ word-first (run letter-or-digit (b ∷ bs))

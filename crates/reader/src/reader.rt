@@ -2,9 +2,14 @@
 ghost use mathlib.Core.Path.{_≡_};
 ghost use mathlib.Core.Bool.{true, false};
 ghost use Prim.Native.Nat.{ℕ, _+_, _<_, _≤_};
+ghost use lib.Dec.{leb};
 ghost use lib.ListN.{length, getD, take, drop};
 ghost use denote.Ref.{now as behind};
 ghost use Rattle.reader.specs.Tokens as tokens;
+ghost use Rattle.std.specs.Of.Vec.{vec-items};
+ghost use Rattle.std.specs.Vec.{made};
+ghost use Rattle.reader.specs.Faults.{Meets, must};
+ghost use Rattle.reader.specs.Lists.{Ended};
 ghost use Rattle.reader.specs.Reads.{goes-on, word-first, equal-token, next-at, first-of, Shows, stands};
 ghost use Rattle.reader.specs.Views as views;
 use crate::classes::Run;
@@ -12,9 +17,16 @@ use crate::classes::Start;
 use crate::classes::begins;
 use crate::classes::word_tag;
 use crate::fault::Cause;
+use crate::fault::Error;
+use crate::fault::ErrorFromFault;
+use crate::fault::ErrorFromRefused;
 use crate::fault::Fault;
 use crate::token::Tag;
 use crate::token::Token;
+use std::alloc::Global;
+
+// A text's greatest length.
+const MOST_BYTES: usize = 16384;
 
 // The part of a text from `at` on, `len` bytes long, or as far as the text goes.
 pub fn part<'a>(text: &'a [u8], at: usize, len: usize) -> &'a [u8]
@@ -132,5 +144,31 @@ impl<'a> Reader<'a> {
         ensures { λ r. ⌜ now r ≡ views.part (now (self .entry) .text .now) (now (token .entry) .at) (now (token .entry) .len) ⌝ }
     {
         part(self.text, token.at, token.len)
+    }
+}
+
+fn check_length(text: &[u8]) -> Result<(), Fault>
+    ensures { λ r. ⌜ r ≡ must (leb (length (now (text .entry))) 16384) Cause.TextTooLong 16384 ⌝ }
+{
+    if text.len() > MOST_BYTES {
+        return Err(Fault { cause: Cause::TextTooLong, offset: MOST_BYTES });
+    }
+    Ok(())
+}
+
+// All tokens of a text, the text's end last; or the first fault.
+pub fn read(heap: Global, text: &[u8]) -> Result<Vec<Token>, Error>
+    ensures exact { λ r. ⌜ Meets (λ v ls. views.lexemes (now (text .entry)) (vec-items v) ≡ ls) r (tokens.tokenized (now (text .entry))) ⌝ }
+    ensures ended { λ r. ⌜ made r (λ v. Ended (now (text .entry)) (vec-items v)) ⌝ }
+{
+    check_length(text)?;
+    let mut found = Vec::new(heap);
+    let mut reader = Reader::new(text);
+    loop {
+        let token = reader.next()?;
+        found.push(token)?;
+        if let Tag::End = token.tag {
+            return Ok(found);
+        }
     }
 }
