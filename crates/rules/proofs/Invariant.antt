@@ -25,7 +25,9 @@ use Rattle.rules.proofs.Locals.{busy-live, live-some, running-inj}
 use Rattle.rules.proofs.Acts.{Fits}
 use Rattle.rules.proofs.Readiness.{ready-running, ready-down}
 use Rattle.rules.proofs.Places.{WritesPlace, writes, step-fits, run-place, parted-place, parted-par, observed-inv}
-use Rattle.rules.proofs.Cells.{above-busy, Marked, step-marks, awaits-next}
+use Rattle.rules.proofs.Above.{above-busy}
+use Rattle.rules.proofs.Cells.{awaits-next}
+use Rattle.rules.proofs.Marks.{Marked, step-marks}
 use Rattle.rules.proofs.Stable.{same-at, same-move?}
 
 -- what is written is fine, if anything is
