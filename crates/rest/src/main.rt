@@ -44,6 +44,16 @@ fn run(rt: &LibcRuntime) -> Result<(), AnyError> {
     }
 }
 
+// Whether a fixed token is a sign or a reserved word.
+fn fixed_kind(tag: Tag) -> &'static str {
+    match tag {
+        Tag::OpenParen | Tag::CloseParen | Tag::OpenBrace | Tag::CloseBrace => "sign",
+        Tag::Comma | Tag::Semicolon | Tag::Ampersand | Tag::Assign => "sign",
+        Tag::Plus | Tag::Minus | Tag::Star | Tag::Less | Tag::Equals => "sign",
+        _ => "word",
+    }
+}
+
 // One line for each token: its offset, its kind and how it is written.
 fn show_tokens(rt: &LibcRuntime, text: &[u8], tokens: &[Token]) -> Result<(), AnyError> {
     for token in tokens {
@@ -58,7 +68,10 @@ fn show_tokens(rt: &LibcRuntime, text: &[u8], tokens: &[Token]) -> Result<(), An
                 println!(rt, "")?
             }
             Tag::End => println!(rt, "at={at} end")?,
-            _ => println!(rt, "at={at} sign {written}")?,
+            tag => {
+                let kind = fixed_kind(tag);
+                println!(rt, "at={at} {kind} {written}")?
+            }
         }
     }
     Ok(())
@@ -77,14 +90,16 @@ fn show_reading<K: NumberKind>(rt: &LibcRuntime, kind: &K, name: &str, digits: &
     Ok(())
 }
 
-// The sum of the words to come at one port of a bank, at most so many.
+// The sum of the words to come at one port of a bank, at most so many; a word that is no number of the kind is left out.
 fn total<K: NumberKind, B: Bank>(kind: &K, bank: &mut B, port: u32, most: usize) -> u32 {
     let mut sum = 0;
     for _ in 0..most {
         let Some(word) = bank.take(port) else {
             return sum;
         };
-        sum = kind.sum(sum, word);
+        if kind.is_number(word) {
+            sum = kind.sum(sum, word);
+        }
     }
     sum
 }
