@@ -4,3 +4,6 @@ mod classes;
 pub mod fault;
 pub mod reader;
 pub mod token;
+
+#[cfg(test)]
+mod tests;
