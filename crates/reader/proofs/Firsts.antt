@@ -22,7 +22,30 @@ use Rattle.reader.specs.declared.token.Token.{Token}
 use Rattle.reader.specs.declared.token.Tag.{Tag}
 use Rattle.reader.specs.declared.token.Tag.the-variants as tags
 use Rattle.reader.specs.Tokens.{
-  Lexeme, First, space, nothing, lexeme, Class, name, number, fixed, finish, same, among, blank, letter, digit, letter-or-digit, run, begins, first, up-to, signs, sign-of, word-class, reserved,
+  Lexeme,
+  First,
+  space,
+  nothing,
+  lexeme,
+  Class,
+  name,
+  number,
+  fixed,
+  finish,
+  same,
+  among,
+  blank,
+  letter,
+  digit,
+  letter-or-digit,
+  run,
+  begins,
+  first,
+  up-to,
+  signs,
+  sign-of,
+  word-class,
+  reserved,
 }
 use Rattle.reader.specs.Views.{spelled, class-of, lexeme-of, part}
 use Rattle.reader.specs.Reads.{sign-tags, sign-in, start-of, word-tags, tag-in, word-tag, word-first, equal-token, first-of, Shows}
@@ -119,8 +142,8 @@ sign-fits b bs [] a nl nd none = cond-both (eqb b 61) Equal Nothing (Fits b bs) 
 sign-fits b bs (t ∷ ts) a nl nd none =
     cond-both (same (b ∷ []) (spelled [] t)) (Sign t) (sign-in ts b) (Fits b bs)
     (λ e.
-      let q = same-true (b ∷ []) (spelled [] t) e in
-      (a .0, sym q, subst (λ (x : ℕ). first x bs ≡ lexeme fixed (x ∷ [])) (byte-is b (a .0 .byte) (spelled [] t) (a .0 .spells) q) (a .0 .stands bs), nl, nd))
+    let q = same-true (b ∷ []) (spelled [] t) e in
+    (a .0, sym q, subst (λ (x : ℕ). first x bs ≡ lexeme fixed (x ∷ [])) (byte-is b (a .0 .byte) (spelled [] t) (a .0 .spells) q) (a .0 .stands bs), nl, nd))
     (λ e. sign-fits b bs ts (a .1) nl nd (λ l. none (e, l)))
 
 no-sign : (b : ℕ) (bs : List ℕ) (ss : List (List ℕ)) → All (λ s. begins s (b ∷ bs) ≡ false) ss → sign-of ss (b ∷ bs) ≡ nothing
@@ -140,8 +163,8 @@ none b bs a ne =
 abbrev by-tests : ℕ → List ℕ → Bool → Bool → Bool → First
 by-tests b bs x y z =
     elim x [
-      true ↦ space
-    | false ↦ elim y [ true ↦ word-first (b ∷ run letter-or-digit bs) | false ↦ elim z [ true ↦ up-to 10 number (b ∷ run digit bs) | false ↦ sign-of signs (b ∷ bs) ] ]
+      | true ↦ space
+      | false ↦ elim y [ true ↦ word-first (b ∷ run letter-or-digit bs) | false ↦ elim z [ true ↦ up-to 10 number (b ∷ run digit bs) | false ↦ sign-of signs (b ∷ bs) ] ]
     ]
 
 module _ (b : ℕ) (bs : List ℕ) where

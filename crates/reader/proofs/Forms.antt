@@ -13,7 +13,28 @@ use Rattle.std.proofs.shelf.Tests.{and-parts, and-from, or-cases, or-left, or-r
 use Rattle.reader.specs.declared.classes.Start.{Start}
 use Rattle.reader.specs.declared.classes.Start.the-variants as starts
 use Rattle.reader.specs.Tokens.{
-  First, space, nothing, lexeme, Class, name, number, fixed, finish, same, among, blank, letter, digit, letter-or-digit, run, begins, first, up-to, signs, reserved, word-class,
+  First,
+  space,
+  nothing,
+  lexeme,
+  Class,
+  name,
+  number,
+  fixed,
+  finish,
+  same,
+  among,
+  blank,
+  letter,
+  digit,
+  letter-or-digit,
+  run,
+  begins,
+  first,
+  up-to,
+  signs,
+  reserved,
+  word-class,
 }
 use Rattle.reader.specs.Reads.{start-of, word-first}
 use Rattle.reader.specs.Language.{Separates, Letter, Digit, Among, Form, a-name, a-number, a-word, a-sign, Short, IsToken, Longest, Unreadable}
@@ -26,8 +47,8 @@ use Rattle.reader.proofs.Nexts.{no-lexeme, not-space, lexeme-parts, up-to-is, 
 letter-is : (b : ℕ) → letter b ≡ true → Letter b
 letter-is b e =
     elim (or-cases (leb 65 b && leb b 90) (leb 97 b && leb b 122) e) [
-      inl h ↦ let p = and-parts (leb 65 b) (leb b 90) h in inl (leb-true 65 b (p .0), leb-true b 90 (p .1))
-    | inr h ↦ let p = and-parts (leb 97 b) (leb b 122) h in inr (leb-true 97 b (p .0), leb-true b 122 (p .1))
+      | inl h ↦ let p = and-parts (leb 65 b) (leb b 90) h in inl (leb-true 65 b (p .0), leb-true b 90 (p .1))
+      | inr h ↦ let p = and-parts (leb 97 b) (leb b 122) h in inr (leb-true 97 b (p .0), leb-true b 122 (p .1))
     ]
 
 is-letter : (b : ℕ) → Letter b → letter b ≡ true
@@ -149,10 +170,10 @@ module _ (b : ℕ) (bs v t : List ℕ) (e : v ++ t ≡ b ∷ bs) where
   sign-bound l d ne (inr (inl k)) = absurd (both-ways (digit b) d (k .0))
   sign-bound l d ne (inr (inr k)) =
       elim (k .3) [
-        inl h ↦ omega arith
-      | inr h ↦
-        let q : 61 ∷ 61 ∷ t ≡ b ∷ bs = ap (λ (l : List ℕ). l ++ t) (sym h) ∙ e in
-        absurd (ne t (let r : b ≡ 61 = cc in r) (let r : bs ≡ 61 ∷ t = cc in r))
+        | inl h ↦ omega arith
+        | inr h ↦
+            let q : 61 ∷ 61 ∷ t ≡ b ∷ bs = ap (λ (l : List ℕ). l ++ t) (sym h) ∙ e in
+            absurd (ne t (let r : b ≡ 61 = cc in r) (let r : bs ≡ 61 ∷ t = cc in r))
       ]
 
   two-bound : letter b ≡ false → digit b ≡ false → Kind b v → length v ≤ 2
@@ -173,10 +194,12 @@ word-token b bs w l e n = go (among w reserved) refl
   where
     go : (t : Bool) → among w reserved ≡ t → IsToken (cond t fixed name) w
     go true h = (a-word w (among-is w reserved h), tt)
-    go false h =
-        (subst (Form name) (sym e)
+    go false h = (
+      subst (Form name) (sym e)
           (a-name b (run letter-or-digit bs) (letter-is b l) (all-weaker (λ y. letter-or-digit y ≡ true) (λ y. Letter y ⊎ Digit y) either-is (run letter-or-digit bs) (run-all letter-or-digit bs))
-            (λ a. both-ways (among w reserved) h (is-among w reserved (subst (λ (u : List ℕ). Among u reserved) (sym e) a)))), n)
+          (λ a. both-ways (among w reserved) h (is-among w reserved (subst (λ (u : List ℕ). Among u reserved) (sym e) a)))),
+      n,
+    )
 
 number-form : (b : ℕ) (bs w : List ℕ) → digit b ≡ true → w ≡ b ∷ run digit bs → Form number w
 number-form b bs w d e = subst (Form number) (sym e) (a-number b (run digit bs) (digit-is b d) (all-weaker (λ y. digit y ≡ true) Digit digit-is (run digit bs) (run-all digit bs)))
@@ -187,33 +210,38 @@ taken-by b bs c w rest starts.Word f e s =
     let v = run letter-or-digit (b ∷ bs) in
     let p = up-to-is 16 (word-class v) c v w (sym (f .1) ∙ e) in
     let on = run-on letter-or-digit b bs (or-left (letter b) (digit b) (f .0)) in
-    let k = word-token b bs v (f .0) on (leb-true (length v) 16 (p .0)) in
-    (subst (λ (d : Class). IsToken d w) (p .1) (subst (IsToken (word-class v)) (p .2) k),
-     longest-by b bs w rest s (λ u t q h. subst (λ (x : List ℕ). length u ≤ length x) (p .2) (word-bound b bs u t q (f .0) h)))
+    let k = word-token b bs v (f .0) on (leb-true (length v) 16 (p .0)) in (
+      subst (λ (d : Class). IsToken d w) (p .1) (subst (IsToken (word-class v)) (p .2) k),
+      longest-by b bs w rest s (λ u t q h. subst (λ (x : List ℕ). length u ≤ length x) (p .2) (word-bound b bs u t q (f .0) h)),
+    )
 taken-by b bs c w rest starts.Number f e s =
     let v = run digit (b ∷ bs) in
     let p = up-to-is 10 number c v w (sym (f .2) ∙ e) in
-    let k : IsToken number v = (number-form b bs v (f .1) (run-on digit b bs (f .1)), leb-true (length v) 10 (p .0)) in
-    (subst (λ (d : Class). IsToken d w) (p .1) (subst (IsToken number) (p .2) k),
-     longest-by b bs w rest s (λ u t q h. subst (λ (x : List ℕ). length u ≤ length x) (p .2) (number-bound b bs u t q (f .0) (f .1) h)))
+    let k : IsToken number v = (number-form b bs v (f .1) (run-on digit b bs (f .1)), leb-true (length v) 10 (p .0)) in (
+      subst (λ (d : Class). IsToken d w) (p .1) (subst (IsToken number) (p .2) k),
+      longest-by b bs w rest s (λ u t q h. subst (λ (x : List ℕ). length u ≤ length x) (p .2) (number-bound b bs u t q (f .0) (f .1) h)),
+    )
 taken-by b bs c w rest (starts.Sign t) f e s =
     let p = lexeme-parts (sym (f .2) ∙ e) in
     let k : IsToken fixed (b ∷ []) = (a-sign (b ∷ []) (among-is (b ∷ []) signs (subst (λ (u : List ℕ). among u signs ≡ true) (f .1) (f .0 .listed))), tt) in
     let byte : f .0 .byte ≡ b = (let x = f .0 .spells in let y = f .1 in cc) in
-    let ne : (b ≡ 61 → ⊥) = λ z. eqb-false (f .0 .byte) 61 (f .0 .no-equal) (byte ∙ z) in
-    (subst (λ (d : Class). IsToken d w) (p .0) (subst (IsToken fixed) (p .1) k),
-     longest-by b bs w rest s (λ u t q h. subst (λ (x : List ℕ). length u ≤ length x) (p .1) (sign-bound b bs u t q (f .3) (f .4) (λ xs z y. ne z) h)))
+    let ne : (b ≡ 61 → ⊥) = λ z. eqb-false (f .0 .byte) 61 (f .0 .no-equal) (byte ∙ z) in (
+      subst (λ (d : Class). IsToken d w) (p .0) (subst (IsToken fixed) (p .1) k),
+      longest-by b bs w rest s (λ u t q h. subst (λ (x : List ℕ). length u ≤ length x) (p .1) (sign-bound b bs u t q (f .3) (f .4) (λ xs z y. ne z) h)),
+    )
 taken-by b bs c w rest starts.Equal f e s =
     let p = equal-parts bs w c (ap (λ (x : ℕ). first x bs) (sym f) ∙ e) in
     let l : letter b ≡ false = ap letter f in
     let d : digit b ≡ false = ap digit f in
     elim (p .1) [
-      inl h ↦
-      (subst (λ (d : Class). IsToken d w) (p .0) (subst (IsToken fixed) (sym (h .0)) (a-sign (61 ∷ 61 ∷ []) (among-is (61 ∷ 61 ∷ []) signs refl), tt)),
-       longest-by b bs w rest s (λ u t q k. subst (λ (x : List ℕ). length u ≤ length x) (sym (h .0)) (two-bound b bs u t q l d k)))
-    | inr h ↦
-      (subst (λ (d : Class). IsToken d w) (p .0) (subst (IsToken fixed) (sym (h .0)) (a-sign (61 ∷ []) (among-is (61 ∷ []) signs refl), tt)),
-       longest-by b bs w rest s (λ u t q k. subst (λ (x : List ℕ). length u ≤ length x) (sym (h .0)) (sign-bound b bs u t q l d (λ xs z y. eqb-false (getD bs 0 0) 61 (h .1) (ap (λ (x : List ℕ). getD x 0 0) y)) k)))
+      | inl h ↦ (
+        subst (λ (d : Class). IsToken d w) (p .0) (subst (IsToken fixed) (sym (h .0)) (a-sign (61 ∷ 61 ∷ []) (among-is (61 ∷ 61 ∷ []) signs refl), tt)),
+        longest-by b bs w rest s (λ u t q k. subst (λ (x : List ℕ). length u ≤ length x) (sym (h .0)) (two-bound b bs u t q l d k)),
+      )
+      | inr h ↦ (
+        subst (λ (d : Class). IsToken d w) (p .0) (subst (IsToken fixed) (sym (h .0)) (a-sign (61 ∷ []) (among-is (61 ∷ []) signs refl), tt)),
+        longest-by b bs w rest s (λ u t q k. subst (λ (x : List ℕ). length u ≤ length x) (sym (h .0)) (sign-bound b bs u t q l d (λ xs z y. eqb-false (getD bs 0 0) 61 (h .1) (ap (λ (x : List ℕ). getD x 0 0) y)) k)),
+      )
     ]
 taken-by b bs c w rest starts.Nothing f e s = no-lexeme (sym (f .3) ∙ e)
 
@@ -244,12 +272,17 @@ word-unreadable b bs l n =
     let on = run-on letter-or-digit b bs (or-left (letter b) (digit b) l) in
     let s = run-split letter-or-digit (b ∷ bs) in
     let no : (Among v reserved → ⊥) = λ a. let k = word-like v a .2 in omega arith in
-    inr (name, v, rest, s,
+    inr (
+      name,
+      v,
+      rest,
+      s,
       subst (Form name) (sym on)
-        (a-name b (run letter-or-digit bs) (letter-is b l) (all-weaker (λ y. letter-or-digit y ≡ true) (λ y. Letter y ⊎ Digit y) either-is (run letter-or-digit bs) (run-all letter-or-digit bs))
+          (a-name b (run letter-or-digit bs) (letter-is b l) (all-weaker (λ y. letter-or-digit y ≡ true) (λ y. Letter y ⊎ Digit y) either-is (run letter-or-digit bs) (run-all letter-or-digit bs))
           (λ a. no (subst (λ (u : List ℕ). Among u reserved) (sym on) a))),
       longest-by b bs v rest s (λ u t q h. word-bound b bs u t q l h),
-      λ k. omega arith)
+      λ k. omega arith,
+    )
 
 number-unreadable : (b : ℕ) (bs : List ℕ) → letter b ≡ false → digit b ≡ true → 10 < length (run digit (b ∷ bs)) → Unreadable (b ∷ bs)
 number-unreadable b bs l d n =

@@ -33,9 +33,9 @@ run-next f b bs =
 pub data Step (o : ℕ) (xs : List ℕ) : Type 0 where
   ends : All Separates xs → tokens 0 o xs ≡ Ok (record { class = finish; text = []; at = o + length xs } ∷ []) → Step o xs
   stops : (gap : List ℕ) (b : ℕ) (rest : List ℕ) → xs ≡ gap ++ (b ∷ rest) → All Separates gap → (Separates b → ⊥) → Unreadable (b ∷ rest)
-    → tokens 0 o xs ≡ refuse NoToken (o + length gap) → Step o xs
+      → tokens 0 o xs ≡ refuse NoToken (o + length gap) → Step o xs
   takes : (gap w rest : List ℕ) (c : Class) → xs ≡ gap ++ (w ++ rest) → All Separates gap → IsToken c w → Longest w rest → length rest < length xs
-    → tokens 0 o xs ≡ cons (record { class = c; text = w; at = o + length gap }) (tokens 0 (o + length gap + length w) rest) → Step o xs
+      → tokens 0 o xs ≡ cons (record { class = c; text = w; at = o + length gap }) (tokens 0 (o + length gap + length w) rest) → Step o xs
 
 module _ (o : ℕ) (xs : List ℕ) where
   gap-of : List ℕ
@@ -128,6 +128,6 @@ pub refusals-have-causes : Refusals-have-causes
 refusals-have-causes text f = go (leb (length text) 16384) refl
   where
     go : (t : Bool) → leb (length text) 16384 ≡ t → whole text t ≡ Err f
-      → ((16384 < length text) × (f ≡ record { cause = TextTooLong; offset = 16384 })) ⊎ ((length text ≤ 16384) × (f .cause ≡ NoToken) × Stuck 0 text (f .offset))
+        → ((16384 < length text) × (f ≡ record { cause = TextTooLong; offset = 16384 })) ⊎ ((length text ≤ 16384) × (f .cause ≡ NoToken) × Stuck 0 text (f .offset))
     go true h e = let k = stuck (length text) 0 text f (omega arith) e in inr (leb-true (length text) 16384 h, k .0, k .1)
     go false h e = inl (leb-false (length text) 16384 h, (let q : f ≡ record { cause = TextTooLong; offset = 16384 } = cc in q))

@@ -58,8 +58,8 @@ prefix-by b bs c w Number f e =
 prefix-by b bs c w (Sign t) f e = (bs, ap (λ (l : List ℕ). l ++ bs) (lexeme-parts (sym (f .2) ∙ e) .1))
 prefix-by b bs c w Equal f e =
     elim (equal-parts bs w c (ap (λ (x : ℕ). first x bs) (sym f) ∙ e) .1) [
-      inl h ↦ (h .1 .0, subst (λ (l : List ℕ). b ∷ bs ≡ l ++ h .1 .0) (sym (h .0)) (let k = h .1 .1 in cc))
-    | inr h ↦ (bs, subst (λ (l : List ℕ). b ∷ bs ≡ l ++ bs) (sym (h .0)) (ap (λ (x : ℕ). x ∷ bs) f))
+      | inl h ↦ (h .1 .0, subst (λ (l : List ℕ). b ∷ bs ≡ l ++ h .1 .0) (sym (h .0)) (let k = h .1 .1 in cc))
+      | inr h ↦ (bs, subst (λ (l : List ℕ). b ∷ bs ≡ l ++ bs) (sym (h .0)) (ap (λ (x : ℕ). x ∷ bs) f))
     ]
 prefix-by b bs c w Nothing f e = no-lexeme (sym (f .3) ∙ e)
 

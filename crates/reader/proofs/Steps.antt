@@ -70,8 +70,8 @@ solid-by b bs c w (Sign t) f e = let p = lexeme-parts (sym (f .2) ∙ e) in reco
 solid-by b bs c w Equal f e =
     let p = equal-parts bs w c (ap (λ (x : ℕ). first x bs) (sym f) ∙ e) in
     elim (p .1) [
-      inl h ↦ record { class = inr (inr (sym (p .0))); more = 61 ∷ []; starts = h .0 ∙ ap (λ (x : ℕ). x ∷ 61 ∷ []) (sym f) }
-    | inr h ↦ record { class = inr (inr (sym (p .0))); more = []; starts = h .0 ∙ ap (λ (x : ℕ). x ∷ []) (sym f) }
+      | inl h ↦ record { class = inr (inr (sym (p .0))); more = 61 ∷ []; starts = h .0 ∙ ap (λ (x : ℕ). x ∷ 61 ∷ []) (sym f) }
+      | inr h ↦ record { class = inr (inr (sym (p .0))); more = []; starts = h .0 ∙ ap (λ (x : ℕ). x ∷ []) (sym f) }
     ]
 solid-by b bs c w Nothing f e = no-lexeme (sym (f .3) ∙ e)
 
@@ -86,9 +86,9 @@ cons l r = r >>= (λ ts. Ok (l ∷ ts))
 abbrev after : ℕ → List ℕ → First → Answer (List Lexeme)
 after o bs f =
     elim f [
-      space ↦ tokens zero (suc o) bs
-    | nothing ↦ refuse NoToken o
-    | lexeme c w ↦ tokens (pred (length w)) (suc o) bs >>= (λ ts. Ok (record { class = c; text = w; at = o } ∷ ts))
+      | space ↦ tokens zero (suc o) bs
+      | nothing ↦ refuse NoToken o
+      | lexeme c w ↦ tokens (pred (length w)) (suc o) bs >>= (λ ts. Ok (record { class = c; text = w; at = o } ∷ ts))
     ]
 
 tokens-pass : (n o : ℕ) (bs : List ℕ) → n ≤ length bs → tokens n o bs ≡ tokens 0 (o + n) (drop n bs)
@@ -203,10 +203,11 @@ module _ (text : List ℕ) (at : ℕ) (ts : List Token) (h : at ≤ length text)
     leads [] e =
         let p = told text (next-at text at) [] t (subst (λ (l : List ℕ). Shows text (next-at text at) (first-of l) (Ok t)) e s) in
         let q = lexeme-parts (p .is) in
-        let l : lexeme-of text t ≡ record { class = finish; text = []; at = next-at text at } = p .shows ∙ lexeme-eq (sym (q .0)) (sym (q .1)) in
-        (class-end (t .tag) (ap (λ (l : Lexeme). l .class) l),
-         sym (to-here) ∙ ap (λ (xs : List ℕ). prepend (lexemes text ts) (tokens 0 (next-at text at) xs)) e
-         ∙ ap (λ (k : Lexeme). Ok (lexemes text ts ++ (k ∷ []))) (sym l) ∙ ap (λ (k : List Lexeme). Ok k) (sym (lexemes-push text ts t)))
+        let l : lexeme-of text t ≡ record { class = finish; text = []; at = next-at text at } = p .shows ∙ lexeme-eq (sym (q .0)) (sym (q .1)) in (
+          class-end (t .tag) (ap (λ (l : Lexeme). l .class) l),
+          sym (to-here) ∙ ap (λ (xs : List ℕ). prepend (lexemes text ts) (tokens 0 (next-at text at) xs)) e
+              ∙ ap (λ (k : Lexeme). Ok (lexemes text ts ++ (k ∷ []))) (sym l) ∙ ap (λ (k : List Lexeme). Ok k) (sym (lexemes-push text ts t)),
+        )
     leads (b ∷ bs) e =
         let o = next-at text at in
         let p = told text o (b ∷ bs) t (subst (λ (l : List ℕ). Shows text o (first-of l) (Ok t)) e s) in
@@ -214,16 +215,17 @@ module _ (text : List ℕ) (at : ℕ) (ts : List Token) (h : at ≤ length text)
         let n = p .long in
         let m = ap length (d .starts) in
         let rest : drop (o + t .len) text ≡ p .rest = sym (drop-drop (t .len) o text) ∙ ap (drop (t .len)) (e ∙ p .split) ∙ drop-at (p .bytes) (p .rest) (t .len) (sym n) in
-        let tail : tokens 0 (o + length (p .bytes)) (p .rest) ≡ tokens 0 (o + t .len) (drop (o + t .len) text) = ap (λ (k : ℕ). tokens 0 (o + k) (p .rest)) (sym n) ∙ ap (tokens 0 (o + t .len)) (sym rest) in
-        (λ z. not-finish (p .class) (d .class) (sym (ap (λ (l : Lexeme). l .class) (p .shows)) ∙ ap class-of z),
-         omega arith,
-         ap (λ (k : List Lexeme). prepend k (tokens 0 (o + t .len) (drop (o + t .len) text))) (lexemes-push text ts t)
-         ∙ ap (λ (r : Answer (List Lexeme)). prepend (lexemes text ts ++ (lexeme-of text t ∷ [])) r) (sym tail)
-         ∙ sym (prepend-cons (lexemes text ts) (lexeme-of text t) (tokens 0 (o + length (p .bytes)) (p .rest)))
-         ∙ ap (λ (l : Lexeme). prepend (lexemes text ts) (cons l (tokens 0 (o + length (p .bytes)) (p .rest)))) (p .shows)
-         ∙ ap (prepend (lexemes text ts)) (sym (tokens-more o b bs (p .class) (p .bytes) (p .rest) (p .is) (p .split)))
-         ∙ ap (λ (xs : List ℕ). prepend (lexemes text ts) (tokens 0 o xs)) (sym e)
-         ∙ to-here)
+        let tail : tokens 0 (o + length (p .bytes)) (p .rest) ≡ tokens 0 (o + t .len) (drop (o + t .len) text) = ap (λ (k : ℕ). tokens 0 (o + k) (p .rest)) (sym n) ∙ ap (tokens 0 (o + t .len)) (sym rest) in (
+          λ z. not-finish (p .class) (d .class) (sym (ap (λ (l : Lexeme). l .class) (p .shows)) ∙ ap class-of z),
+          omega arith,
+          ap (λ (k : List Lexeme). prepend k (tokens 0 (o + t .len) (drop (o + t .len) text))) (lexemes-push text ts t)
+              ∙ ap (λ (r : Answer (List Lexeme)). prepend (lexemes text ts ++ (lexeme-of text t ∷ [])) r) (sym tail)
+              ∙ sym (prepend-cons (lexemes text ts) (lexeme-of text t) (tokens 0 (o + length (p .bytes)) (p .rest)))
+              ∙ ap (λ (l : Lexeme). prepend (lexemes text ts) (cons l (tokens 0 (o + length (p .bytes)) (p .rest)))) (p .shows)
+              ∙ ap (prepend (lexemes text ts)) (sym (tokens-more o b bs (p .class) (p .bytes) (p .rest) (p .is) (p .split)))
+              ∙ ap (λ (xs : List ℕ). prepend (lexemes text ts) (tokens 0 o xs)) (sym e)
+              ∙ to-here,
+        )
 
     look : (xs : List ℕ) → Leads xs → (t .tag ≡ tags.End → ⊥) → (0 < t .len) × (prepend (lexemes text (ts ++ (t ∷ []))) (tokens 0 (next-at text at + t .len) (drop (next-at text at + t .len) text)) ≡ tokens 0 0 text)
     unfolding Leads

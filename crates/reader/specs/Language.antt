@@ -54,8 +54,8 @@ Longest w rest = (c : Class) (v t : List ℕ) → v ++ t ≡ w ++ rest → Form 
 pub data Laid : ℕ → List ℕ → List Lexeme → Type 0 where
   at-end : (o : ℕ) (bs : List ℕ) → All Separates bs → Laid o bs (record { class = finish; text = []; at = o + length bs } ∷ [])
   token : (o : ℕ) (bs gap w rest : List ℕ) (c : Class) (ls : List Lexeme) → bs ≡ gap ++ (w ++ rest) → All Separates gap → IsToken c w → Longest w rest
-    → Laid (o + length gap + length w) rest ls
-    → Laid o bs (record { class = c; text = w; at = o + length gap } ∷ ls)
+      → Laid (o + length gap + length w) rest ls
+      → Laid o bs (record { class = c; text = w; at = o + length gap } ∷ ls)
 
 -- no token can be read here: nothing that stands here is made as one, or the longest that is so made is too long
 abbrev pub Unreadable : List ℕ → Type 0
@@ -66,10 +66,10 @@ Unreadable bs =
 -- Reading comes to an offset where no token can be read: what stands before it is separators and longest tokens.
 pub data Stuck : ℕ → List ℕ → ℕ → Type 0 where
   here : (o : ℕ) (bs gap : List ℕ) (b : ℕ) (rest : List ℕ) → bs ≡ gap ++ (b ∷ rest) → All Separates gap → (Separates b → ⊥) → Unreadable (b ∷ rest)
-    → Stuck o bs (o + length gap)
+      → Stuck o bs (o + length gap)
   after : (o : ℕ) (bs gap w rest : List ℕ) (c : Class) (p : ℕ) → bs ≡ gap ++ (w ++ rest) → All Separates gap → IsToken c w → Longest w rest
-    → Stuck (o + length gap + length w) rest p
-    → Stuck o bs p
+      → Stuck (o + length gap + length w) rest p
+      → Stuck o bs p
 
 -- a text that is read is no longer than allowed, and is laid out as its tokens say
 abbrev pub Tokens-are-longest : Type 0

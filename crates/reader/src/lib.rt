@@ -4,7 +4,6 @@ mod classes;
 pub mod fault;
 pub mod laws;
 pub mod reader;
-pub mod token;
-
 #[cfg(test)]
 mod tests;
+pub mod token;

@@ -39,14 +39,14 @@ returns-in-End c =
     let p : vec-items (c .push .last .self) ≡ ts ++ (t ∷ []) = c .in-Continue-push .ensures tt .items in
     record {
       exact = exact-ok text (c .push .last .self) (ts ++ (t ∷ [])) (c .loop-found .inv .1) p (all-read text at ts (n .inside) (n .going) t (n .shows) (c .in-End .is));
-      ended = subst (λ (l : List Token). Ended text l) (sym p) (ended text at ts (n .inside) (n .going) t (n .shows) (c .loop-found .inv .1) (c .in-End .is))
+      ended = subst (λ (l : List Token). Ended text l) (sym p) (ended text at ts (n .inside) (n .going) t (n .shows) (c .loop-found .inv .1) (c .in-End .is));
     }
 
 next-turn : (c : need.In-rest) → (c .loop-found .reader .at < c .next .last .self .at) × Going (c .args .text .now) (c .next .last .self .at) (vec-items (c .push .last .self))
 next-turn c =
     again (now (c .loop-found .reader .text)) (c .args .text .now) (c .loop-found .reader .at) (c .next .last .self .at) (vec-items (c .loop-found .found)) (vec-items (c .push .last .self)) (c .in-Continue-token .token)
     (turn (now (c .loop-found .reader .text)) (c .args .text .now) (c .loop-found .reader .at) (vec-items (c .loop-found .found)) (c .in-Continue-token .token)
-      (c .loop-found .inv .0) (c .loop-found .reader .within) (c .loop-found .inv .2) (c .in-Continue-token .ensures tt .token))
+    (c .loop-found .inv .0) (c .loop-found .reader .within) (c .loop-found .inv .2) (c .in-Continue-token .ensures tt .token))
     (c .in-rest .not-End) (c .loop-found .inv .0) (c .in-Continue-token .ensures tt .stands) (c .in-Continue-push .ensures tt .items)
 
 pub loop-found-less : need.loop-found-less

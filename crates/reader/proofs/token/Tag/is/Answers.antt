@@ -7,8 +7,35 @@ use Rattle.std.proofs.shelf.Tests.{eqb-true, eq-eqb}
 use Rattle.reader.specs.contracts.token.Tag.{the-type}
 use Rattle.reader.specs.declared.token.Tag.{Tag}
 use Rattle.reader.specs.declared.token.Tag.the-variants.{
-  Name, Number, OpenParen, CloseParen, OpenBrace, CloseBrace, Comma, Semicolon, Ampersand, Assign, Plus, Minus, Star, Less, Equals,
-  Var, Next, Know, Take, If, Else, While, Par, Try, Catch, Throw, Proc, Main, End,
+  Name,
+  Number,
+  OpenParen,
+  CloseParen,
+  OpenBrace,
+  CloseBrace,
+  Comma,
+  Semicolon,
+  Ampersand,
+  Assign,
+  Plus,
+  Minus,
+  Star,
+  Less,
+  Equals,
+  Var,
+  Next,
+  Know,
+  Take,
+  If,
+  Else,
+  While,
+  Par,
+  Try,
+  Catch,
+  Throw,
+  Proc,
+  Main,
+  End,
 }
 use Rattle.reader.proofs.token.Tag.is.Needs as need
 
@@ -48,6 +75,7 @@ back Main = refl
 back End = refl
 
 pub returns : need.returns
-returns c =
-    (λ e. sym (back (c .args .self)) ∙ ap (λ (n : ℕ). getD in-order n End) (eqb-true (tagOf the-type (c .args .self)) (tagOf the-type (c .args .other)) e) ∙ back (c .args .other),
-     λ e. eq-eqb (tagOf the-type (c .args .self)) (tagOf the-type (c .args .other)) (ap (tagOf the-type) e))
+returns c = (
+  λ e. sym (back (c .args .self)) ∙ ap (λ (n : ℕ). getD in-order n End) (eqb-true (tagOf the-type (c .args .self)) (tagOf the-type (c .args .other)) e) ∙ back (c .args .other),
+  λ e. eq-eqb (tagOf the-type (c .args .self)) (tagOf the-type (c .args .other)) (ap (tagOf the-type) e),
+)
