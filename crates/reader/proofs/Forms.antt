@@ -44,21 +44,21 @@ use Rattle.reader.proofs.Nexts.{no-lexeme, not-space, lexeme-parts, up-to-is, 
 
 -- ---- tests and what they tell
 
-letter-is : (b : ℕ) → letter b ≡ true → Letter b
+pub letter-is : (b : ℕ) → letter b ≡ true → Letter b
 letter-is b e =
     elim (or-cases (leb 65 b && leb b 90) (leb 97 b && leb b 122) e) [
       | inl h ↦ let p = and-parts (leb 65 b) (leb b 90) h in inl (leb-true 65 b (p .0), leb-true b 90 (p .1))
       | inr h ↦ let p = and-parts (leb 97 b) (leb b 122) h in inr (leb-true 97 b (p .0), leb-true b 122 (p .1))
     ]
 
-is-letter : (b : ℕ) → Letter b → letter b ≡ true
+pub is-letter : (b : ℕ) → Letter b → letter b ≡ true
 is-letter b (inl h) = or-left (leb 65 b && leb b 90) (leb 97 b && leb b 122) (and-from (leb 65 b) (leb b 90) (le-leb 65 b (h .0)) (le-leb b 90 (h .1)))
 is-letter b (inr h) = or-right (leb 65 b && leb b 90) (leb 97 b && leb b 122) (and-from (leb 97 b) (leb b 122) (le-leb 97 b (h .0)) (le-leb b 122 (h .1)))
 
-digit-is : (b : ℕ) → digit b ≡ true → Digit b
+pub digit-is : (b : ℕ) → digit b ≡ true → Digit b
 digit-is b e = let p = and-parts (leb 48 b) (leb b 57) e in (leb-true 48 b (p .0), leb-true b 57 (p .1))
 
-is-digit : (b : ℕ) → Digit b → digit b ≡ true
+pub is-digit : (b : ℕ) → Digit b → digit b ≡ true
 is-digit b h = and-from (leb 48 b) (leb b 57) (le-leb 48 b (h .0)) (le-leb b 57 (h .1))
 
 either-is : (b : ℕ) → letter-or-digit b ≡ true → Letter b ⊎ Digit b
@@ -68,7 +68,7 @@ is-either : (b : ℕ) → Letter b ⊎ Digit b → letter-or-digit b ≡ true
 is-either b (inl h) = or-left (letter b) (digit b) (is-letter b h)
 is-either b (inr h) = or-right (letter b) (digit b) (is-digit b h)
 
-not-both : (b : ℕ) → letter b ≡ true → digit b ≡ true → ⊥
+pub not-both : (b : ℕ) → letter b ≡ true → digit b ≡ true → ⊥
 not-both b l d = let k = digit-is b d in let m = k .0 in let n = k .1 in elim (letter-is b l) [ inl h ↦ let x = h .0 in omega arith | inr h ↦ let x = h .0 in omega arith ]
 
 pub separates : (b : ℕ) → blank b ≡ true → Separates b
@@ -82,40 +82,40 @@ same-refl : (v : List ℕ) → same v v ≡ true
 same-refl [] = refl
 same-refl (x ∷ xs) = and-from (eqb x x) (same xs xs) (eq-eqb x x refl) (same-refl xs)
 
-among-is : (w : List ℕ) (vs : List (List ℕ)) → among w vs ≡ true → Among w vs
+pub among-is : (w : List ℕ) (vs : List (List ℕ)) → among w vs ≡ true → Among w vs
 among-is w [] e = false≢true e
 among-is w (v ∷ vs) e = elim (or-cases (same w v) (among w vs) e) [ inl h ↦ inl (same-true w v h) | inr h ↦ inr (among-is w vs h) ]
 
-is-among : (w : List ℕ) (vs : List (List ℕ)) → Among w vs → among w vs ≡ true
+pub is-among : (w : List ℕ) (vs : List (List ℕ)) → Among w vs → among w vs ≡ true
 is-among w [] h = absurd h
 is-among w (v ∷ vs) (inl e) = or-left (same w v) (among w vs) (subst (λ (u : List ℕ). same w u ≡ true) e (same-refl w))
 is-among w (v ∷ vs) (inr h) = or-right (same w v) (among w vs) (is-among w vs h)
 
-listed : (P : List ℕ → Type 0) (w : List ℕ) (vs : List (List ℕ)) → All P vs → Among w vs → P w
+pub listed : (P : List ℕ → Type 0) (w : List ℕ) (vs : List (List ℕ)) → All P vs → Among w vs → P w
 listed P w [] a h = absurd h
 listed P w (v ∷ vs) a (inl e) = subst P (sym e) (a .0)
 listed P w (v ∷ vs) a (inr h) = listed P w vs (a .1) h
 
 -- ---- the listed spellings
 
-abbrev WordLike : List ℕ → Type 0
+abbrev pub WordLike : List ℕ → Type 0
 WordLike w = (letter (getD w 0 0) ≡ true) × All (λ x. letter-or-digit x ≡ true) w × (length w ≤ 16)
 
-word-like : (w : List ℕ) → Among w reserved → WordLike w
+pub word-like : (w : List ℕ) → Among w reserved → WordLike w
 word-like w = listed WordLike w reserved ((refl, (refl, (refl, (refl, tt))), omega arith), ((refl, (refl, (refl, (refl, (refl, tt)))), omega arith), ((refl, (refl, (refl, (refl, (refl, tt)))), omega arith), ((refl, (refl, (refl, (refl, (refl, tt)))), omega arith), ((refl, (refl, (refl, tt)), omega arith), ((refl, (refl, (refl, (refl, (refl, tt)))), omega arith), ((refl, (refl, (refl, (refl, (refl, (refl, tt))))), omega arith), ((refl, (refl, (refl, (refl, tt))), omega arith), ((refl, (refl, (refl, (refl, tt))), omega arith), ((refl, (refl, (refl, (refl, (refl, (refl, tt))))), omega arith), ((refl, (refl, (refl, (refl, (refl, (refl, tt))))), omega arith), ((refl, (refl, (refl, (refl, (refl, tt)))), omega arith), ((refl, (refl, (refl, (refl, (refl, tt)))), omega arith), tt)))))))))))))
 
-abbrev OneOrEqual : List ℕ → Type 0
+abbrev pub OneOrEqual : List ℕ → Type 0
 OneOrEqual w = (length w ≡ 1) ⊎ (w ≡ 61 ∷ 61 ∷ [])
 
-abbrev SignLike : List ℕ → Type 0
+abbrev pub SignLike : List ℕ → Type 0
 SignLike w = (letter (getD w 0 0) ≡ false) × (digit (getD w 0 0) ≡ false) × OneOrEqual w
 
-sign-like : (w : List ℕ) → Among w signs → SignLike w
+pub sign-like : (w : List ℕ) → Among w signs → SignLike w
 sign-like w = listed SignLike w signs ((refl, refl, inl refl), ((refl, refl, inl refl), ((refl, refl, inl refl), ((refl, refl, inl refl), ((refl, refl, inl refl), ((refl, refl, inl refl), ((refl, refl, inl refl), ((refl, refl, inr refl), ((refl, refl, inl refl), ((refl, refl, inl refl), ((refl, refl, inl refl), ((refl, refl, inl refl), ((refl, refl, inl refl), tt)))))))))))))
 
 -- ---- how a beginning is made, by the first byte
 
-abbrev Kind : ℕ → List ℕ → Type 0
+abbrev pub Kind : ℕ → List ℕ → Type 0
 Kind b v =
     ((letter b ≡ true) × All (λ x. letter-or-digit x ≡ true) v)
     ⊎ (((digit b ≡ true) × All (λ x. digit x ≡ true) v) ⊎ ((letter b ≡ false) × (digit b ≡ false) × Among v signs × OneOrEqual v))
@@ -132,7 +132,7 @@ one-some : (v : List ℕ) → OneOrEqual v → 0 < length v
 one-some v (inl e) = omega arith
 one-some v (inr e) = let l : length v ≡ 2 = ap length e in omega arith
 
-form-kind : (c : Class) (v t : List ℕ) (b : ℕ) (bs : List ℕ) → v ++ t ≡ b ∷ bs → Form c v → Kind b v
+pub form-kind : (c : Class) (v t : List ℕ) (b : ℕ) (bs : List ℕ) → v ++ t ≡ b ∷ bs → Form c v → Kind b v
 form-kind c v t b bs e (a-name x xs l a n) =
     let q : x ≡ b = cc in
     inl (subst (λ (y : ℕ). letter y ≡ true) q (is-letter x l), (is-either x (inl l), all-weaker (λ y. Letter y ⊎ Digit y) (λ y. letter-or-digit y ≡ true) is-either xs a))

@@ -1,3 +1,4 @@
+pub mod Converse
 pub mod Firsts
 pub mod Forms
 pub mod Laying

@@ -80,3 +80,13 @@ abbrev pub Refusals-have-causes : Type 0
 Refusals-have-causes =
     (text : List ℕ) (f : Fault) → tokenized text ≡ Err f
     → ((16384 < length text) × (f ≡ record { cause = TextTooLong; offset = 16384 })) ⊎ ((length text ≤ 16384) × (f .cause ≡ NoToken) × Stuck 0 text (f .offset))
+
+-- a text that is laid out so, and no longer than allowed, is read as those tokens
+abbrev pub Layouts-are-read : Type 0
+Layouts-are-read = (text : List ℕ) (ls : List Lexeme) → length text ≤ 16384 → Laid 0 text ls → tokenized text ≡ Ok ls
+
+-- a text that is too long is refused for it, and any other that has a byte where no token can be read, there
+abbrev pub Causes-are-refused : Type 0
+Causes-are-refused =
+    ((text : List ℕ) → 16384 < length text → tokenized text ≡ Err (record { cause = TextTooLong; offset = 16384 }))
+    × ((text : List ℕ) (p : ℕ) → length text ≤ 16384 → Stuck 0 text p → tokenized text ≡ Err (record { cause = NoToken; offset = p }))
