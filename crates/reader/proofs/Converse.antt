@@ -2,25 +2,22 @@
 use mathlib.Core.Path.{_≡_, refl, sym, ap, subst, _∙_}
 use mathlib.Core.List.{List, [], _∷_, _++_, append-nil}
 use mathlib.Core.Bool.{Bool, true, false, cond}
-use mathlib.Core.Logic.{_⊎_, inl, inr}
-use Prim.Native.Nat.{ℕ, suc, _+_, _<_, _≤_}
+use mathlib.Core.Logic.{inl, inr}
+use Prim.Native.Nat.{ℕ, _+_, _<_}
 use native.Mathlib.Omega.{arith}
 use native.Mathlib.Nat.{le-antisymm}
-use lib.Dec.{leb}
 use lib.ListN.{length, getD, take, drop}
 use Rattle.std.specs.shelf.Lists.{All}
 use Rattle.std.proofs.shelf.Lists.{take-at, drop-at}
-use Rattle.std.proofs.shelf.Tests.{both-ways, cases-bool, cond-true, cond-false, lt-leb, false≢true}
-use Rattle.std.specs.declared.result.Result.the-variants.{Ok, Err}
-use Rattle.reader.specs.declared.fault.Fault.{Fault}
+use Rattle.std.proofs.shelf.Tests.{both-ways, cond-true, cond-false, lt-leb, false≢true}
+use Rattle.std.specs.declared.result.Result.the-variants.{Ok}
 use Rattle.reader.specs.declared.fault.Cause.the-variants.{TextTooLong, NoToken}
-use Rattle.reader.specs.Faults.{Answer, refuse}
-use Rattle.reader.specs.Tokens.{Lexeme, Class, name, number, fixed, finish, among, letter, digit, blank, signs, reserved, word-class, tokens, tokenized}
-use Rattle.reader.specs.Language.{
-  Separates, Letter, Digit, Among, Form, a-name, a-number, a-word, a-sign, Short, IsToken, Longest, Laid, at-end, token, Unreadable, Stuck, here, after, Layouts-are-read, Causes-are-refused,
-}
+use Rattle.reader.specs.Faults.{refuse}
+use Rattle.reader.specs.Tokens.{Lexeme, Class, name, number, fixed, finish, among, letter, digit, blank, signs, reserved, word-class, tokens}
+use Rattle.reader.specs.Language.{Separates, Letter, Digit, Among, Form, a-name, a-number, a-word, a-sign, Short, IsToken, Longest, Laid, at-end, token, Unreadable, Stuck, here, after, Layouts-are-read, Causes-are-refused}
 use Rattle.reader.proofs.Forms.{letter-is, digit-is, is-letter, is-digit, among-is, is-among, not-both, listed, word-like, sign-like, is-blank, form-kind}
-use Rattle.reader.proofs.Steps.{cons, tokenized-is}
+use Rattle.reader.proofs.Steps.{cons}
+use Rattle.reader.proofs.Turns.{tokenized-is}
 use Rattle.reader.proofs.Laying.{Step, ends, stops, takes, step}
 
 -- ---- a token's bytes determine its class
@@ -99,12 +96,14 @@ form-none c (a-sign w h) = elim (sign-like [] h .2) [ inl e ↦ omega arith | in
 -- what is made as a token has a byte, and begins with no separator
 starts : (c : Class) (w rest : List ℕ) → Form c w → Begins (w ++ rest) × (0 < length w)
 starts c [] rest f = absurd (form-none c f)
-starts c (b ∷ bs) rest f =
-    (elim (form-kind c (b ∷ bs) [] b (bs ++ []) refl f) [
-      inl k ↦ no-letter b (letter-is b (k .0))
+starts c (b ∷ bs) rest f = (
+  elim (form-kind c (b ∷ bs) [] b (bs ++ []) refl f) [
+    | inl k ↦ no-letter b (letter-is b (k .0))
     | inr (inl k) ↦ no-digit b (digit-is b (k .0))
     | inr (inr k) ↦ λ s. both-ways (blank b) (dark-sign (b ∷ bs) (k .2)) (is-blank b s)
-    ], omega arith)
+  ],
+  omega arith,
+)
 
 unlike : {A : Type 0} (w rest : List ℕ) → [] ≡ w ++ rest → 0 < length w → A
 unlike [] rest e h = absurd (omega arith)
@@ -165,6 +164,7 @@ pub layouts-are-read : Layouts-are-read
 layouts-are-read text ls h k = tokenized-is text h ∙ laid-read 0 text ls k
 
 pub causes-are-refused : Causes-are-refused
-causes-are-refused =
-    (λ text h. ap (λ (t : Bool). elim t [ true ↦ tokens 0 0 text | false ↦ refuse {A = List Lexeme} TextTooLong 16384 ]) (lt-leb (length text) 16384 h),
-     λ text p h k. tokenized-is text h ∙ stuck-read 0 text p k)
+causes-are-refused = (
+  λ text h. ap (λ (t : Bool). elim t [ true ↦ tokens 0 0 text | false ↦ refuse {A = List Lexeme} TextTooLong 16384 ]) (lt-leb (length text) 16384 h),
+  λ text p h k. tokenized-is text h ∙ stuck-read 0 text p k,
+)

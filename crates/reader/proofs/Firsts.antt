@@ -1,16 +1,15 @@
 -- What stands first, by the byte that it begins with.
 use mathlib.Core.Path.{_≡_, refl, sym, ap, subst, _∙_}
-use mathlib.Core.List.{List, [], _∷_, _++_, map}
+use mathlib.Core.List.{List, [], _∷_, map}
 use mathlib.Core.Bool.{Bool, true, false, cond, _&&_, _||_}
 use mathlib.Core.Logic.{_⊎_, inl, inr}
-use Prim.Native.Nat.{ℕ, suc, _+_, _-_, _<_, _≤_}
+use Prim.Native.Nat.{ℕ, _+_, _<_, _≤_}
 use native.Mathlib.Omega.{arith}
-use lib.Chars.{codes}
 use lib.Dec.{eqb, leb}
 use lib.ListN.{length, getD, drop, take}
 use Rattle.std.specs.shelf.Lists.{All}
 use Rattle.std.proofs.shelf.Lists.{drop-more, getD-drop}
-use Rattle.std.proofs.shelf.Tests.{cond-both, cond-true, cond-false, eqb-true, eqb-false, eq-eqb, le-leb, lt-leb, and-parts, cases-eq, or-left, ne-eqb, both-ways}
+use Rattle.std.proofs.shelf.Tests.{cond-both, cond-true, cond-false, eqb-true, eqb-false, le-leb, and-parts, cases-eq, or-left, ne-eqb, both-ways}
 use Rattle.std.proofs.shelf.Ways.{tells}
 use Rattle.std.specs.declared.result.Result.the-variants.{Ok, Err}
 use Rattle.reader.specs.declared.classes.Start.{Start}
@@ -21,33 +20,8 @@ use Rattle.reader.specs.declared.fault.Cause.the-variants.{NoToken}
 use Rattle.reader.specs.declared.token.Token.{Token}
 use Rattle.reader.specs.declared.token.Tag.{Tag}
 use Rattle.reader.specs.declared.token.Tag.the-variants as tags
-use Rattle.reader.specs.Tokens.{
-  Lexeme,
-  First,
-  space,
-  nothing,
-  lexeme,
-  Class,
-  name,
-  number,
-  fixed,
-  finish,
-  same,
-  among,
-  blank,
-  letter,
-  digit,
-  letter-or-digit,
-  run,
-  begins,
-  first,
-  up-to,
-  signs,
-  sign-of,
-  word-class,
-  reserved,
-}
-use Rattle.reader.specs.Views.{spelled, class-of, lexeme-of, part}
+use Rattle.reader.specs.Tokens.{Lexeme, First, space, nothing, lexeme, Class, name, number, fixed, same, among, blank, letter, digit, letter-or-digit, run, begins, first, up-to, signs, sign-of, word-class}
+use Rattle.reader.specs.Views.{spelled, class-of, part}
 use Rattle.reader.specs.Reads.{sign-tags, sign-in, start-of, word-tags, tag-in, word-tag, word-first, equal-token, first-of, Shows}
 use Rattle.reader.proofs.Runs.{run-on, run-take}
 

@@ -13,13 +13,14 @@ use Rattle.std.proofs.shelf.Tests.{leb-true, leb-false, both-ways}
 use Rattle.std.specs.declared.result.Result.the-variants.{Ok, Err}
 use Rattle.reader.specs.declared.fault.Fault.{Fault}
 use Rattle.reader.specs.declared.fault.Cause.the-variants.{TextTooLong, NoToken}
-use Rattle.reader.specs.Faults.{Answer, _>>=_, refuse}
-use Rattle.reader.specs.Tokens.{Lexeme, First, space, nothing, lexeme, Class, finish, blank, run, first, tokens, tokenized}
+use Rattle.reader.specs.Faults.{Answer, refuse}
+use Rattle.reader.specs.Tokens.{Lexeme, First, space, nothing, lexeme, Class, finish, blank, run, first, tokens}
 use Rattle.reader.specs.Language.{Separates, IsToken, Longest, Laid, at-end, token, Unreadable, Stuck, here, after, Tokens-are-longest, Refusals-have-causes}
 use Rattle.reader.proofs.Runs.{by-run, run-split, run-all}
 use Rattle.reader.proofs.Nexts.{first-prefix}
 use Rattle.reader.proofs.Steps.{solid, cons, tokens-skip, tokens-none, tokens-more}
-use Rattle.reader.proofs.Forms.{separates, is-blank, taken, unreadable, only-blank}
+use Rattle.reader.proofs.Forms.{separates, is-blank}
+use Rattle.reader.proofs.Takes.{taken, unreadable, only-blank}
 
 -- the byte after a run does not go on
 run-next : (f : ℕ → Bool) (b : ℕ) (bs xs : List ℕ) → drop (length (run f xs)) xs ≡ b ∷ bs → f b ≡ false

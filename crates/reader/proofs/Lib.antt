@@ -6,4 +6,6 @@ pub mod Nexts
 pub mod Parts
 pub mod Runs
 pub mod Steps
+pub mod Takes
+pub mod Turns
 pub mod WordTests

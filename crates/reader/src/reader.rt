@@ -9,6 +9,7 @@ ghost use Rattle.reader.specs.Tokens as tokens;
 ghost use Rattle.std.specs.Of.Vec.{vec-items};
 ghost use Rattle.std.specs.Vec.{made};
 ghost use Rattle.reader.specs.Faults.{Meets, must};
+ghost use Rattle.reader.specs.Language.{Laid};
 ghost use Rattle.reader.specs.Lists.{Ended};
 ghost use Rattle.reader.specs.Reads.{goes-on, word-first, equal-token, next-at, first-of, Shows, stands};
 ghost use Rattle.reader.specs.Views as views;
@@ -189,6 +190,7 @@ fn check_length(text: &[u8]) -> Result<(), Fault>
 // All tokens of a text, the text's end last; or the first fault.
 pub fn read(heap: Global, text: &[u8]) -> Result<Vec<Token>, Error>
     ensures exact { λ r. ⌜ Meets (λ v ls. views.lexemes (now (text .entry)) (vec-items v) ≡ ls) r (tokens.tokenized (now (text .entry))) ⌝ }
+    ensures laid { λ r. ⌜ made r (λ v. Laid 0 (now (text .entry)) (views.lexemes (now (text .entry)) (vec-items v))) ⌝ }
     ensures ended { λ r. ⌜ made r (λ v. Ended (now (text .entry)) (vec-items v)) ⌝ }
 {
     check_length(text)?;

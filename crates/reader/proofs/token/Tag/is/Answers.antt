@@ -6,37 +6,7 @@ use denote.Enum.Declared.{tagOf}
 use Rattle.std.proofs.shelf.Tests.{eqb-true, eq-eqb}
 use Rattle.reader.specs.contracts.token.Tag.{the-type}
 use Rattle.reader.specs.declared.token.Tag.{Tag}
-use Rattle.reader.specs.declared.token.Tag.the-variants.{
-  Name,
-  Number,
-  OpenParen,
-  CloseParen,
-  OpenBrace,
-  CloseBrace,
-  Comma,
-  Semicolon,
-  Ampersand,
-  Assign,
-  Plus,
-  Minus,
-  Star,
-  Less,
-  Equals,
-  Var,
-  Next,
-  Know,
-  Take,
-  If,
-  Else,
-  While,
-  Par,
-  Try,
-  Catch,
-  Throw,
-  Proc,
-  Main,
-  End,
-}
+use Rattle.reader.specs.declared.token.Tag.the-variants.{Name, Number, OpenParen, CloseParen, OpenBrace, CloseBrace, Comma, Semicolon, Ampersand, Assign, Plus, Minus, Star, Less, Equals, Var, Next, Know, Take, If, Else, While, Par, Try, Catch, Throw, Proc, Main, End}
 use Rattle.reader.proofs.token.Tag.is.Needs as need
 
 -- the tags in the order of their codes
