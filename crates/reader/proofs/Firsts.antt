@@ -1,16 +1,15 @@
 -- What stands first, by the byte that it begins with.
 use mathlib.Core.Path.{_≡_, refl, sym, ap, subst, _∙_}
-use mathlib.Core.List.{List, [], _∷_, _++_, map}
+use mathlib.Core.List.{List, [], _∷_, map}
 use mathlib.Core.Bool.{Bool, true, false, cond, _&&_, _||_}
 use mathlib.Core.Logic.{_⊎_, inl, inr}
-use Prim.Native.Nat.{ℕ, suc, _+_, _-_, _<_, _≤_}
+use Prim.Native.Nat.{ℕ, _+_, _<_, _≤_}
 use native.Mathlib.Omega.{arith}
-use lib.Chars.{codes}
 use lib.Dec.{eqb, leb}
 use lib.ListN.{length, getD, drop, take}
 use Rattle.std.specs.shelf.Lists.{All}
 use Rattle.std.proofs.shelf.Lists.{drop-more, getD-drop}
-use Rattle.std.proofs.shelf.Tests.{cond-both, cond-true, cond-false, eqb-true, eqb-false, eq-eqb, le-leb, lt-leb, and-parts, cases-eq, or-left, ne-eqb, both-ways}
+use Rattle.std.proofs.shelf.Tests.{cond-both, cond-true, cond-false, eqb-true, eqb-false, le-leb, and-parts, cases-eq, or-left, ne-eqb, both-ways}
 use Rattle.std.proofs.shelf.Ways.{tells}
 use Rattle.std.specs.declared.result.Result.the-variants.{Ok, Err}
 use Rattle.reader.specs.declared.classes.Start.{Start}
@@ -21,10 +20,8 @@ use Rattle.reader.specs.declared.fault.Cause.the-variants.{NoToken}
 use Rattle.reader.specs.declared.token.Token.{Token}
 use Rattle.reader.specs.declared.token.Tag.{Tag}
 use Rattle.reader.specs.declared.token.Tag.the-variants as tags
-use Rattle.reader.specs.Tokens.{
-  Lexeme, First, space, nothing, lexeme, Class, name, number, fixed, finish, same, among, blank, letter, digit, letter-or-digit, run, begins, first, up-to, signs, sign-of, word-class, reserved,
-}
-use Rattle.reader.specs.Views.{spelled, class-of, lexeme-of, part}
+use Rattle.reader.specs.Tokens.{Lexeme, First, space, nothing, lexeme, Class, name, number, fixed, same, among, blank, letter, digit, letter-or-digit, run, begins, first, up-to, signs, sign-of, word-class}
+use Rattle.reader.specs.Views.{spelled, class-of, part}
 use Rattle.reader.specs.Reads.{sign-tags, sign-in, start-of, word-tags, tag-in, word-tag, word-first, equal-token, first-of, Shows}
 use Rattle.reader.proofs.Runs.{run-on, run-take}
 
@@ -97,9 +94,10 @@ pub record OneByte (t : Tag) : Type 0 where
   pub spells : spelled [] t ≡ byte ∷ []
   pub stands : (bs : List ℕ) → first byte bs ≡ lexeme fixed (byte ∷ [])
   pub no-equal : eqb byte 61 ≡ false
+  pub listed : among (spelled [] t) signs ≡ true
 
 abbrev one-byte-signs : All OneByte sign-tags
-one-byte-signs = (record { spelt = record { is-fixed = refl; always = λ w. refl }; byte = 40; spells = refl; stands = λ bs. refl; no-equal = refl }, (record { spelt = record { is-fixed = refl; always = λ w. refl }; byte = 41; spells = refl; stands = λ bs. refl; no-equal = refl }, (record { spelt = record { is-fixed = refl; always = λ w. refl }; byte = 123; spells = refl; stands = λ bs. refl; no-equal = refl }, (record { spelt = record { is-fixed = refl; always = λ w. refl }; byte = 125; spells = refl; stands = λ bs. refl; no-equal = refl }, (record { spelt = record { is-fixed = refl; always = λ w. refl }; byte = 44; spells = refl; stands = λ bs. refl; no-equal = refl }, (record { spelt = record { is-fixed = refl; always = λ w. refl }; byte = 59; spells = refl; stands = λ bs. refl; no-equal = refl }, (record { spelt = record { is-fixed = refl; always = λ w. refl }; byte = 38; spells = refl; stands = λ bs. refl; no-equal = refl }, (record { spelt = record { is-fixed = refl; always = λ w. refl }; byte = 43; spells = refl; stands = λ bs. refl; no-equal = refl }, (record { spelt = record { is-fixed = refl; always = λ w. refl }; byte = 45; spells = refl; stands = λ bs. refl; no-equal = refl }, (record { spelt = record { is-fixed = refl; always = λ w. refl }; byte = 42; spells = refl; stands = λ bs. refl; no-equal = refl }, (record { spelt = record { is-fixed = refl; always = λ w. refl }; byte = 60; spells = refl; stands = λ bs. refl; no-equal = refl }, tt)))))))))))
+one-byte-signs = (record { spelt = record { is-fixed = refl; always = λ w. refl }; byte = 40; spells = refl; stands = λ bs. refl; no-equal = refl; listed = refl }, (record { spelt = record { is-fixed = refl; always = λ w. refl }; byte = 41; spells = refl; stands = λ bs. refl; no-equal = refl; listed = refl }, (record { spelt = record { is-fixed = refl; always = λ w. refl }; byte = 123; spells = refl; stands = λ bs. refl; no-equal = refl; listed = refl }, (record { spelt = record { is-fixed = refl; always = λ w. refl }; byte = 125; spells = refl; stands = λ bs. refl; no-equal = refl; listed = refl }, (record { spelt = record { is-fixed = refl; always = λ w. refl }; byte = 44; spells = refl; stands = λ bs. refl; no-equal = refl; listed = refl }, (record { spelt = record { is-fixed = refl; always = λ w. refl }; byte = 59; spells = refl; stands = λ bs. refl; no-equal = refl; listed = refl }, (record { spelt = record { is-fixed = refl; always = λ w. refl }; byte = 38; spells = refl; stands = λ bs. refl; no-equal = refl; listed = refl }, (record { spelt = record { is-fixed = refl; always = λ w. refl }; byte = 43; spells = refl; stands = λ bs. refl; no-equal = refl; listed = refl }, (record { spelt = record { is-fixed = refl; always = λ w. refl }; byte = 45; spells = refl; stands = λ bs. refl; no-equal = refl; listed = refl }, (record { spelt = record { is-fixed = refl; always = λ w. refl }; byte = 42; spells = refl; stands = λ bs. refl; no-equal = refl; listed = refl }, (record { spelt = record { is-fixed = refl; always = λ w. refl }; byte = 60; spells = refl; stands = λ bs. refl; no-equal = refl; listed = refl }, tt)))))))))))
 
 -- what a byte's class says of what stands first
 abbrev pub Fits : ℕ → List ℕ → Start → Type 0
@@ -118,8 +116,8 @@ sign-fits b bs [] a nl nd none = cond-both (eqb b 61) Equal Nothing (Fits b bs) 
 sign-fits b bs (t ∷ ts) a nl nd none =
     cond-both (same (b ∷ []) (spelled [] t)) (Sign t) (sign-in ts b) (Fits b bs)
     (λ e.
-      let q = same-true (b ∷ []) (spelled [] t) e in
-      (a .0, sym q, subst (λ (x : ℕ). first x bs ≡ lexeme fixed (x ∷ [])) (byte-is b (a .0 .byte) (spelled [] t) (a .0 .spells) q) (a .0 .stands bs), nl, nd))
+    let q = same-true (b ∷ []) (spelled [] t) e in
+    (a .0, sym q, subst (λ (x : ℕ). first x bs ≡ lexeme fixed (x ∷ [])) (byte-is b (a .0 .byte) (spelled [] t) (a .0 .spells) q) (a .0 .stands bs), nl, nd))
     (λ e. sign-fits b bs ts (a .1) nl nd (λ l. none (e, l)))
 
 no-sign : (b : ℕ) (bs : List ℕ) (ss : List (List ℕ)) → All (λ s. begins s (b ∷ bs) ≡ false) ss → sign-of ss (b ∷ bs) ≡ nothing
@@ -139,8 +137,8 @@ none b bs a ne =
 abbrev by-tests : ℕ → List ℕ → Bool → Bool → Bool → First
 by-tests b bs x y z =
     elim x [
-      true ↦ space
-    | false ↦ elim y [ true ↦ word-first (b ∷ run letter-or-digit bs) | false ↦ elim z [ true ↦ up-to 10 number (b ∷ run digit bs) | false ↦ sign-of signs (b ∷ bs) ] ]
+      | true ↦ space
+      | false ↦ elim y [ true ↦ word-first (b ∷ run letter-or-digit bs) | false ↦ elim z [ true ↦ up-to 10 number (b ∷ run digit bs) | false ↦ sign-of signs (b ∷ bs) ] ]
     ]
 
 module _ (b : ℕ) (bs : List ℕ) where

@@ -1,6 +1,11 @@
+pub mod Converse
 pub mod Firsts
+pub mod Forms
+pub mod Laying
 pub mod Nexts
 pub mod Parts
 pub mod Runs
 pub mod Steps
+pub mod Takes
+pub mod Turns
 pub mod WordTests

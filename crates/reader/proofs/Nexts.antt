@@ -3,20 +3,20 @@ use mathlib.Core.Path.{_≡_, refl, sym, ap, subst, _∙_}
 use mathlib.Core.List.{List, [], _∷_, _++_}
 use mathlib.Core.Bool.{Bool, true, false, cond}
 use mathlib.Core.Logic.{_⊎_, inl, inr}
-use Prim.Native.Nat.{ℕ, suc, _+_, _-_, _<_, _≤_}
+use Prim.Native.Nat.{ℕ, _+_, _<_, _≤_}
 use native.Mathlib.Omega.{arith}
 use lib.Dec.{eqb, leb}
 use lib.ListN.{length, getD, drop, length-append, length-drop}
 use Rattle.std.proofs.shelf.Lists.{getD-drop, drop-all}
-use Rattle.std.proofs.shelf.Tests.{cond-both, cases-bool, eqb-true}
-use Rattle.std.specs.declared.result.Result.the-variants.{Ok, Err}
+use Rattle.std.proofs.shelf.Tests.{eqb-true}
+use Rattle.std.specs.declared.result.Result.the-variants.{Ok}
 use Rattle.reader.specs.declared.classes.Start.{Start}
 use Rattle.reader.specs.declared.classes.Start.the-variants.{Separator, Word, Number, Sign, Equal, Nothing}
 use Rattle.reader.specs.declared.token.Token.{Token}
 use Rattle.reader.specs.declared.token.Tag.the-variants.{End}
-use Rattle.reader.specs.Tokens.{Lexeme, First, space, nothing, lexeme, Class, number, fixed, finish, blank, digit, letter-or-digit, run, first, up-to, word-class}
+use Rattle.reader.specs.Tokens.{First, space, nothing, lexeme, Class, number, fixed, finish, blank, digit, letter-or-digit, run, first, up-to, word-class}
 use Rattle.reader.specs.Views.{lexeme-of}
-use Rattle.reader.specs.Reads.{start-of, next-at, first-of, Shows, word-first}
+use Rattle.reader.specs.Reads.{start-of, next-at, first-of, Shows}
 use Rattle.reader.proofs.Runs.{run-split, run-short, run-stop}
 use Rattle.reader.proofs.Firsts.{Fits, fits, equal-first}
 
@@ -58,8 +58,8 @@ prefix-by b bs c w Number f e =
 prefix-by b bs c w (Sign t) f e = (bs, ap (λ (l : List ℕ). l ++ bs) (lexeme-parts (sym (f .2) ∙ e) .1))
 prefix-by b bs c w Equal f e =
     elim (equal-parts bs w c (ap (λ (x : ℕ). first x bs) (sym f) ∙ e) .1) [
-      inl h ↦ (h .1 .0, subst (λ (l : List ℕ). b ∷ bs ≡ l ++ h .1 .0) (sym (h .0)) (let k = h .1 .1 in cc))
-    | inr h ↦ (bs, subst (λ (l : List ℕ). b ∷ bs ≡ l ++ bs) (sym (h .0)) (ap (λ (x : ℕ). x ∷ bs) f))
+      | inl h ↦ (h .1 .0, subst (λ (l : List ℕ). b ∷ bs ≡ l ++ h .1 .0) (sym (h .0)) (let k = h .1 .1 in cc))
+      | inr h ↦ (bs, subst (λ (l : List ℕ). b ∷ bs ≡ l ++ bs) (sym (h .0)) (ap (λ (x : ℕ). x ∷ bs) f))
     ]
 prefix-by b bs c w Nothing f e = no-lexeme (sym (f .3) ∙ e)
 

@@ -16,8 +16,33 @@ use Rattle.reader.specs.declared.fault.Cause.the-variants.{NoToken}
 use Rattle.reader.specs.declared.token.Token.{Token}
 use Rattle.reader.specs.declared.token.Tag.{Tag}
 use Rattle.reader.specs.declared.token.Tag.the-variants.{
-  Name, OpenParen, CloseParen, OpenBrace, CloseBrace, Comma, Semicolon, Ampersand, Assign, Equals, Plus, Minus, Star, Less,
-  Var, Next, Know, Take, If, Else, While, Par, Try, Catch, Throw, Proc, Main,
+  Name,
+  OpenParen,
+  CloseParen,
+  OpenBrace,
+  CloseBrace,
+  Comma,
+  Semicolon,
+  Ampersand,
+  Assign,
+  Equals,
+  Plus,
+  Minus,
+  Star,
+  Less,
+  Var,
+  Next,
+  Know,
+  Take,
+  If,
+  Else,
+  While,
+  Par,
+  Try,
+  Catch,
+  Throw,
+  Proc,
+  Main,
 }
 use Rattle.reader.specs.Tokens.{First, space, nothing, lexeme, Class, finish, same, blank, letter, digit, letter-or-digit, run, first, up-to, word-class}
 use Rattle.reader.specs.Views.{spelled, lexeme-of}

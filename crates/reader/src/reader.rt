@@ -9,6 +9,7 @@ ghost use Rattle.reader.specs.Tokens as tokens;
 ghost use Rattle.std.specs.Of.Vec.{vec-items};
 ghost use Rattle.std.specs.Vec.{made};
 ghost use Rattle.reader.specs.Faults.{Meets, must};
+ghost use Rattle.reader.specs.Language.{Laid};
 ghost use Rattle.reader.specs.Lists.{Ended};
 ghost use Rattle.reader.specs.Reads.{goes-on, word-first, equal-token, next-at, first-of, Shows, stands};
 ghost use Rattle.reader.specs.Views as views;
@@ -51,7 +52,10 @@ fn run_end(text: &[u8], from: usize, kind: Run) -> usize
 fn no_token(at: usize) -> Fault
     ensures { λ r. ⌜ r ≡ record { cause = Cause.NoToken; offset = at } ⌝ }
 {
-    Fault { cause: Cause::NoToken, offset: at }
+    Fault {
+        cause: Cause::NoToken,
+        offset: at,
+    }
 }
 
 // The name or reserved word that the letters and digits from an index on make.
@@ -62,7 +66,11 @@ fn word_at(text: &[u8], at: usize) -> Result<Token, Fault>
     if len > 16 {
         return Err(no_token(at));
     }
-    Ok(Token { tag: word_tag(part(text, at, len)), at, len })
+    Ok(Token {
+        tag: word_tag(part(text, at, len)),
+        at,
+        len,
+    })
 }
 
 // The number that the digits from an index on make.
@@ -73,7 +81,11 @@ fn number_at(text: &[u8], at: usize) -> Result<Token, Fault>
     if len > 10 {
         return Err(no_token(at));
     }
-    Ok(Token { tag: Tag::Number, at, len })
+    Ok(Token {
+        tag: Tag::Number,
+        at,
+        len,
+    })
 }
 
 // The sign = or == whose first byte stands at an index.
@@ -82,11 +94,23 @@ fn equal_at(text: &[u8], at: usize) -> Token
     ensures { λ r. ⌜ r ≡ equal-token (now (text .entry)) at ⌝ }
 {
     if at + 1 == text.len() {
-        return Token { tag: Tag::Assign, at, len: 1 };
+        return Token {
+            tag: Tag::Assign,
+            at,
+            len: 1,
+        };
     }
     match text[at + 1] as char {
-        '=' => Token { tag: Tag::Equals, at, len: 2 },
-        _ => Token { tag: Tag::Assign, at, len: 1 },
+        '=' => Token {
+            tag: Tag::Equals,
+            at,
+            len: 2,
+        },
+        _ => Token {
+            tag: Tag::Assign,
+            at,
+            len: 1,
+        },
     }
 }
 
@@ -132,7 +156,11 @@ impl<'a> Reader<'a> {
         let at = run_end(text, self.at, Run::Separators);
         self.at = at;
         if at >= text.len() {
-            return Ok(Token { tag: Tag::End, at, len: 0 });
+            return Ok(Token {
+                tag: Tag::End,
+                at,
+                len: 0,
+            });
         }
         let token = token_at(text, at)?;
         self.at = at + token.len;
@@ -151,7 +179,10 @@ fn check_length(text: &[u8]) -> Result<(), Fault>
     ensures { λ r. ⌜ r ≡ must (leb (length (now (text .entry))) 16384) Cause.TextTooLong 16384 ⌝ }
 {
     if text.len() > MOST_BYTES {
-        return Err(Fault { cause: Cause::TextTooLong, offset: MOST_BYTES });
+        return Err(Fault {
+            cause: Cause::TextTooLong,
+            offset: MOST_BYTES,
+        });
     }
     Ok(())
 }
@@ -159,6 +190,7 @@ fn check_length(text: &[u8]) -> Result<(), Fault>
 // All tokens of a text, the text's end last; or the first fault.
 pub fn read(heap: Global, text: &[u8]) -> Result<Vec<Token>, Error>
     ensures exact { λ r. ⌜ Meets (λ v ls. views.lexemes (now (text .entry)) (vec-items v) ≡ ls) r (tokens.tokenized (now (text .entry))) ⌝ }
+    ensures laid { λ r. ⌜ made r (λ v. Laid 0 (now (text .entry)) (views.lexemes (now (text .entry)) (vec-items v))) ⌝ }
     ensures ended { λ r. ⌜ made r (λ v. Ended (now (text .entry)) (vec-items v)) ⌝ }
 {
     check_length(text)?;

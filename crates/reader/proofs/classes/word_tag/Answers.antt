@@ -170,4 +170,3 @@ returns-in-rest·42 c = no-word (c .args .part .now) (grind (arith, tells)) (gri
 
 pub returns-in-rest·43 : need.returns-in-rest·43
 returns-in-rest·43 c = no-word (c .args .part .now) (grind (arith, tells)) (grind (arith, tells)) (grind (arith, tells)) (grind (arith, tells)) (grind (arith, tells)) (grind (arith, tells)) (grind (arith, tells)) (grind (arith, tells)) (grind (arith, tells)) (grind (arith, tells)) (grind (arith, tells)) (grind (arith, tells)) (grind (arith, tells))
-

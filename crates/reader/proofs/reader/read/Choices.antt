@@ -3,7 +3,7 @@ use mathlib.Core.Path.{_≡_}
 use lib.ListN.{length}
 use denote.Ref.{now}
 use Rattle.std.specs.Of.Vec.{vec-items}
-use Rattle.reader.proofs.Steps.{Going}
+use Rattle.reader.proofs.Turns.{Going}
 use Rattle.reader.proofs.reader.read.Given as given
 
 abbrev pub Inv-loop-found : given.InvT-loop-found

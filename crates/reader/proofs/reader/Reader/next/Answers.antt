@@ -14,7 +14,7 @@ returns-then-at-text c =
     record {
       text = refl;
       token = end-shows t (c .run-end-at .result) (next-at t (c .args .self .now .at)) (c .run-end-at .ensures) (c .if-at-text .taken);
-      stands = omega (arith, c .run-end-at .ensures)
+      stands = omega (arith, c .run-end-at .ensures);
     }
 
 pub token-at-requires : need.token-at-requires
