@@ -9,6 +9,7 @@ pub mod Cells
 pub mod Marks
 pub mod Stable
 pub mod Diamonds
+pub mod Branches
 pub mod Invariant
 pub mod Numbers
 pub mod Reached
