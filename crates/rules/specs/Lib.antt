@@ -22,5 +22,6 @@ pub mod Confluence
 pub mod ListingLaws
 pub mod GrantLaws
 pub mod Cases
+pub mod Contrasts
 pub mod Boards
 pub mod Denials
