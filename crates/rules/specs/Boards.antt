@@ -179,6 +179,7 @@ cases =
     ∷ shared
     ∷ waits-for-nothing
     ∷ inside-its-try
+    ∷ poisoned-through
     ∷ []
 
 -- Every case holds, for every kind and all words to come, by the first permitted moves and by others.
