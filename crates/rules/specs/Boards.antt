@@ -6,7 +6,7 @@ use Prim.Native.Nat.{ℕ}
 use Rattle.numbers.specs.Kinds.{Meaning}
 use Rattle.rules.specs.declared.answers.Verdict.the-variants.{Finished, Deadlock}
 use Rattle.rules.specs.Programs.{own, word, plus, end, var, set, know, next, try, par, throw}
-use Rattle.rules.specs.Contrasts.{waits-for-nothing, inside-its-try, poisoned-through}
+use Rattle.rules.specs.Contrasts.{waits-for-nothing, inside-its-try, poisoned-through, zero-over-try, ready-though-marked}
 use Rattle.rules.specs.Cases.{Case, program, all-hold, first-choices, other-choices}
 
 -- main { }
@@ -180,6 +180,8 @@ cases =
     ∷ waits-for-nothing
     ∷ inside-its-try
     ∷ poisoned-through
+    ∷ zero-over-try
+    ∷ ready-though-marked
     ∷ []
 
 -- Every case holds, for every kind and all words to come, by the first permitted moves and by others.

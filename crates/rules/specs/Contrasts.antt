@@ -101,3 +101,59 @@ poisoned-through =
       ends = Finished;
       words = 0 ∷ 0 ∷ 0 ∷ 0 ∷ 0 ∷ 0 ∷ 0 ∷ 0 ∷ [];
     }
+
+-- main { var i; try { par { try { par { throw U; } { throw T; }; } catch (U) { } i = 1; } { know i; }; } catch (T) { } }
+-- A place between a throw and its try gets mark 0 whatever its mark was.
+abbrev pub zero-over-try : Case
+zero-over-try =
+    record {
+      board =
+          program ((0, 0, 5, []) ∷ (0, 7, 8, 0 ∷ []) ∷ (1, 9, 11, []) ∷ (1, 9, 12, []) ∷ (0, 7, 13, 0 ∷ []) ∷ [])
+          ((0, 0) ∷ (0, 0) ∷ [])
+          ((0, end, 0, [])
+          ∷ (1, end, 1, [])
+          ∷ (2, end, 2, [])
+          ∷ (3, end, 3, [])
+          ∷ (4, end, 4, [])
+          ∷ (0, var 0, 6, [])
+          ∷ (0, try 7, 0, [])
+          ∷ (0, par (1 ∷ 4 ∷ []) ((1, 0) ∷ []), 0, 0 ∷ [])
+          ∷ (1, try 9, 10, [])
+          ∷ (1, par (2 ∷ 3 ∷ []) [], 10, 10 ∷ [])
+          ∷ (1, set 0 (word 1), 1, [])
+          ∷ (2, throw 1 1, 2, [])
+          ∷ (3, throw 0 1, 3, [])
+          ∷ (4, know, 4, [])
+          ∷ []);
+      cells = 2;
+      moves = 12;
+      ends = Finished;
+      words = 0 ∷ 0 ∷ [];
+    }
+
+-- main { var a; try { par { par { next a; } { throw T; }; } { next a; }; } catch (T) { } }
+-- Readiness does not look at marks: the nexts meet although the throw has marked the places above.
+abbrev pub ready-though-marked : Case
+ready-though-marked =
+    record {
+      board =
+          program ((0, 0, 5, []) ∷ (0, 7, 8, 0 ∷ []) ∷ (1, 8, 9, 0 ∷ []) ∷ (1, 8, 10, []) ∷ (0, 7, 11, 0 ∷ []) ∷ [])
+          ((0, 0) ∷ (0, 0) ∷ (0, 0) ∷ (0, 0) ∷ [])
+          ((0, end, 0, [])
+          ∷ (1, end, 1, [])
+          ∷ (2, end, 2, [])
+          ∷ (3, end, 3, [])
+          ∷ (4, end, 4, [])
+          ∷ (0, var 0, 6, [])
+          ∷ (0, try 7, 0, [])
+          ∷ (0, par (1 ∷ 4 ∷ []) ((1, 0) ∷ (2, 0) ∷ []), 0, 0 ∷ [])
+          ∷ (1, par (2 ∷ 3 ∷ []) ((3, 1) ∷ []), 1, [])
+          ∷ (2, next 3 0, 2, [])
+          ∷ (3, throw 0 1, 3, [])
+          ∷ (4, next 2 0, 4, [])
+          ∷ []);
+      cells = 4;
+      moves = 11;
+      ends = Finished;
+      words = 0 ∷ 0 ∷ 0 ∷ 0 ∷ [];
+    }
