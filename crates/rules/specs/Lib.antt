@@ -25,3 +25,4 @@ pub mod Cases
 pub mod Contrasts
 pub mod Boards
 pub mod Denials
+pub mod Samples
