@@ -25,3 +25,4 @@ pub mod Granting
 pub mod Chosen
 pub mod Checked
 pub mod Denied
+pub mod Told

@@ -26,3 +26,4 @@ pub mod Contrasts
 pub mod Boards
 pub mod Denials
 pub mod Samples
+pub mod EffectLaws
