@@ -24,6 +24,7 @@ use Rattle.rules.proofs.Tree.{climbs→, part-ways}
 use Rattle.rules.proofs.Readiness.{same-next, counts-in, ready-running, ready-down}
 use Rattle.rules.proofs.Acts.{Fits}
 use Rattle.rules.proofs.Places.{WritesPlace, ReadsPlace, places-disjoint, run-place, step-fits, observed-inv, runs-observed}
+use Rattle.rules.proofs.Bounds.{any-out}
 use Rattle.rules.proofs.Above.{beside, knows-counted}
 
 -- a place that runs at a statement that touches the cell, or takes from the port
@@ -78,10 +79,6 @@ awaits-next (throw g j) c h e = some-none (c, h) none e refl
 
 awaits-touches : (st : Stm) (c h : ℕ) → awaits st ≡ some (c, h) → Touches st c
 awaits-touches st c h e = subst (λ (v : Stm). Touches v c) (sym (awaits-next st c h e)) refl
-
-any-inv : (n : ℕ) (f : ℕ → Bool) → T (any-below n f) → (q : ℕ) × T (f q)
-any-inv zero f h = absurd h
-any-inv (suc n) f h = elim (T-or (f n) (any-below n f) h) [ inl a ↦ (n, a) | inr b ↦ any-inv n f b ]
 
 owns-inv : (t : Table) (o : Option ℕ) (c : ℕ) → T (owns-at t o c) → (x : ℕ) × (h : ℕ) × (o ≡ some x) × (awaits (t .stm x) ≡ some (c, h))
 owns-inv t none c e = absurd e
@@ -156,8 +153,8 @@ module _ (t : Table) (sd : Sound t) (s : State) (wf : Wf t s) where
   cell-writes k (close p) c v a e = some-none v none e refl
   cell-writes k (meet h) c v a e =
       let b = cond-some (any-below (t .places) (λ q. owns-at t (runs-at (observed t s h (t .declarer h) q)) c)) (s .cell h) v e in
-      let q = any-inv (t .places) (λ q. owns-at t (runs-at (observed t s h (t .declarer h) q)) c) (b .0) in
-      let o = owns-inv t (runs-at (observed t s h (t .declarer h) (q .0))) c (q .1) in
+      let q = any-out (t .places) (λ q. owns-at t (runs-at (observed t s h (t .declarer h) q)) c) (b .0) in
+      let o = owns-inv t (runs-at (observed t s h (t .declarer h) (q .0))) c (q .2) in
       let u = runs-observed t s h (t .declarer h) (q .0) (o .0) (o .2) in
       let w = ready-running t s h (o .0) (u .1) (ready-down t s h (a .1) (u .0)) in
       let g : h ≡ o .1 = same-next t s (q .0) (w .0) (o .0) (w .1) c h (o .1) (w .2) (u .1) (w .3) (o .3) .1 in

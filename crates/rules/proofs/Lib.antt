@@ -9,6 +9,7 @@ pub mod Cells
 pub mod Marks
 pub mod Stable
 pub mod Diamonds
+pub mod Branches
 pub mod Invariant
 pub mod Numbers
 pub mod Reached
@@ -24,3 +25,4 @@ pub mod Granting
 pub mod Chosen
 pub mod Checked
 pub mod Denied
+pub mod Told

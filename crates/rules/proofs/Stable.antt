@@ -103,7 +103,7 @@ module _ (k : Meaning) (t : Table) (sd : Sound t) (s : State) (wf : Wf t s) (m :
         | inr o ↦ absurd (f (writes t sd s wf k m q (o .0) pm (o .1)))
       ]
 
-  same-cell : (c : ℕ) → (WritesCell t s m c → ⊥) → s′ .cell c ≡ s .cell c
+  pub same-cell : (c : ℕ) → (WritesCell t s m c → ⊥) → s′ .cell c ≡ s .cell c
   same-cell c f =
       elim (look (effect k t s m .cell c)) [
         | inl e ↦ ap (λ o. Option·getD o (s .cell c)) e

@@ -38,6 +38,10 @@ Listing-ordered =
     → nth (listing t s n) j ≡ some l
     → Precedes (name-of m) (name-of l)
 
+abbrev pub Listing-once : Type 0
+Listing-once =
+    (t : Table) (s : State) (n i j : ℕ) (m : Move) → nth (listing t s n) i ≡ some m → nth (listing t s n) j ≡ some m → i ≡ j
+
 -- Every permitted move exists: rest by the listing is rest by the rules.
 abbrev pub Permitted-exists : Type 0
 Permitted-exists =

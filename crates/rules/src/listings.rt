@@ -3,6 +3,7 @@ ghost use Rattle.rules.specs.ListingLaws.{
   Names-tell,
   Listing-tells,
   Listing-ordered,
+  Listing-once,
   Permitted-exists,
   Rest-tells,
   Verdict-finished,
@@ -22,6 +23,7 @@ pub fn names_tell() -> u8
 pub fn listing_tells() -> u8
     ensures holds { λ _. ⌜ Listing-tells ⌝ }
     ensures ordered { λ _. ⌜ Listing-ordered ⌝ }
+    ensures once { λ _. ⌜ Listing-once ⌝ }
     ensures exists { λ _. ⌜ Permitted-exists ⌝ }
     ensures rest { λ _. ⌜ Rest-tells ⌝ }
 {
