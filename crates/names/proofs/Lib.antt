@@ -4,3 +4,5 @@ pub mod Stacks
 pub mod Finding
 pub mod Declaring
 pub mod Tables
+pub mod Checked
+pub mod Judging

@@ -1,6 +1,7 @@
 // The third stage of clearing: names, arguments, literals and ports.
 
 mod exprs;
+pub mod laws;
 mod literals;
 mod part;
 mod procs;

@@ -9,6 +9,7 @@ ghost use Rattle.grammar.specs.Views.{name, params as parameters, proc, tree as
 ghost use Rattle.numbers.specs.Literals.{literal-reading};
 ghost use Rattle.names.specs.Naming.{find-proc, names-params, names-proc, named};
 ghost use Rattle.names.specs.Scopes.{scope, ended};
+ghost use Rattle.names.specs.Sites.{sites, Judged};
 use crate::procs::parameter_count;
 use crate::stmts::check_block;
 use crate::vars::check_undeclared;
@@ -70,7 +71,8 @@ pub fn check_names<K: NumberKind>(
     text: &[u8],
     tree: &Tree,
 ) -> Result<(), Error>
-    ensures { λ r. ⌜ Meets (λ _ _. Unit {0}) r (named (literal-reading (K·NumberKind .meaning)) (whole (now (text .entry)) (now (tree .entry)))) ⌝ }
+    ensures answer { λ r. ⌜ Meets (λ _ _. Unit {0}) r (named (literal-reading (K·NumberKind .meaning)) (whole (now (text .entry)) (now (tree .entry)))) ⌝ }
+    ensures rules { λ r. ⌜ Judged (literal-reading (K·NumberKind .meaning)) (sites (whole (now (text .entry)) (now (tree .entry)))) r ⌝ }
 {
     let procs = tree.procs.as_slice();
     for i in 0..procs.len() {
