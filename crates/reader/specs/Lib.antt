@@ -1,3 +1,5 @@
 pub mod Faults
+pub mod Lists
+pub mod Reads
 pub mod Tokens
 pub mod Views

@@ -1,4 +1,9 @@
 // The first stage of clearing: a text's bytes become tokens.
 
+mod classes;
 pub mod fault;
+pub mod reader;
 pub mod token;
+
+#[cfg(test)]
+mod tests;
