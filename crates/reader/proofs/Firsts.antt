@@ -97,9 +97,10 @@ pub record OneByte (t : Tag) : Type 0 where
   pub spells : spelled [] t ≡ byte ∷ []
   pub stands : (bs : List ℕ) → first byte bs ≡ lexeme fixed (byte ∷ [])
   pub no-equal : eqb byte 61 ≡ false
+  pub listed : among (spelled [] t) signs ≡ true
 
 abbrev one-byte-signs : All OneByte sign-tags
-one-byte-signs = (record { spelt = record { is-fixed = refl; always = λ w. refl }; byte = 40; spells = refl; stands = λ bs. refl; no-equal = refl }, (record { spelt = record { is-fixed = refl; always = λ w. refl }; byte = 41; spells = refl; stands = λ bs. refl; no-equal = refl }, (record { spelt = record { is-fixed = refl; always = λ w. refl }; byte = 123; spells = refl; stands = λ bs. refl; no-equal = refl }, (record { spelt = record { is-fixed = refl; always = λ w. refl }; byte = 125; spells = refl; stands = λ bs. refl; no-equal = refl }, (record { spelt = record { is-fixed = refl; always = λ w. refl }; byte = 44; spells = refl; stands = λ bs. refl; no-equal = refl }, (record { spelt = record { is-fixed = refl; always = λ w. refl }; byte = 59; spells = refl; stands = λ bs. refl; no-equal = refl }, (record { spelt = record { is-fixed = refl; always = λ w. refl }; byte = 38; spells = refl; stands = λ bs. refl; no-equal = refl }, (record { spelt = record { is-fixed = refl; always = λ w. refl }; byte = 43; spells = refl; stands = λ bs. refl; no-equal = refl }, (record { spelt = record { is-fixed = refl; always = λ w. refl }; byte = 45; spells = refl; stands = λ bs. refl; no-equal = refl }, (record { spelt = record { is-fixed = refl; always = λ w. refl }; byte = 42; spells = refl; stands = λ bs. refl; no-equal = refl }, (record { spelt = record { is-fixed = refl; always = λ w. refl }; byte = 60; spells = refl; stands = λ bs. refl; no-equal = refl }, tt)))))))))))
+one-byte-signs = (record { spelt = record { is-fixed = refl; always = λ w. refl }; byte = 40; spells = refl; stands = λ bs. refl; no-equal = refl; listed = refl }, (record { spelt = record { is-fixed = refl; always = λ w. refl }; byte = 41; spells = refl; stands = λ bs. refl; no-equal = refl; listed = refl }, (record { spelt = record { is-fixed = refl; always = λ w. refl }; byte = 123; spells = refl; stands = λ bs. refl; no-equal = refl; listed = refl }, (record { spelt = record { is-fixed = refl; always = λ w. refl }; byte = 125; spells = refl; stands = λ bs. refl; no-equal = refl; listed = refl }, (record { spelt = record { is-fixed = refl; always = λ w. refl }; byte = 44; spells = refl; stands = λ bs. refl; no-equal = refl; listed = refl }, (record { spelt = record { is-fixed = refl; always = λ w. refl }; byte = 59; spells = refl; stands = λ bs. refl; no-equal = refl; listed = refl }, (record { spelt = record { is-fixed = refl; always = λ w. refl }; byte = 38; spells = refl; stands = λ bs. refl; no-equal = refl; listed = refl }, (record { spelt = record { is-fixed = refl; always = λ w. refl }; byte = 43; spells = refl; stands = λ bs. refl; no-equal = refl; listed = refl }, (record { spelt = record { is-fixed = refl; always = λ w. refl }; byte = 45; spells = refl; stands = λ bs. refl; no-equal = refl; listed = refl }, (record { spelt = record { is-fixed = refl; always = λ w. refl }; byte = 42; spells = refl; stands = λ bs. refl; no-equal = refl; listed = refl }, (record { spelt = record { is-fixed = refl; always = λ w. refl }; byte = 60; spells = refl; stands = λ bs. refl; no-equal = refl; listed = refl }, tt)))))))))))
 
 -- what a byte's class says of what stands first
 abbrev pub Fits : ℕ → List ℕ → Start → Type 0

@@ -1,4 +1,6 @@
 pub mod Firsts
+pub mod Forms
+pub mod Laying
 pub mod Nexts
 pub mod Parts
 pub mod Runs

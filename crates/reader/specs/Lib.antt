@@ -1,4 +1,5 @@
 pub mod Faults
+pub mod Language
 pub mod Lists
 pub mod Reads
 pub mod Tokens

@@ -2,6 +2,7 @@
 
 mod classes;
 pub mod fault;
+pub mod laws;
 pub mod reader;
 pub mod token;
 

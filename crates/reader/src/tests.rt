@@ -1,9 +1,12 @@
 // What the reader answers on small texts.
 use crate::fault::Error;
+use crate::fault::FaultDebug;
 use crate::reader::Reader;
 use crate::reader::part;
 use crate::reader::read;
 use crate::token::Tag;
+use crate::token::TagDebug;
+use crate::token::TagPartialEq;
 use std::alloc::Global;
 use std::test::*;
 
