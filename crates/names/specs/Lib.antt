@@ -1,0 +1,4 @@
+pub mod Naming
+pub mod Sites
+pub mod Laws
+pub mod Scopes
