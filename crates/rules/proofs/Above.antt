@@ -85,7 +85,7 @@ module _ (t : Table) (sd : Sound t) (s : State) (wf : Wf t s) where
         subst (λ (v : ℕ). Within t (a .1) v) (sym (run-place t s wf q y f)) (a .7),
       )
 
-  -- a live place that knows h is reached from where h is declared
+  -- a live place that knows h is counted from where h is declared
   pub knows-counted : (f q h : ℕ) → q ≤ f → T (live (s .at q)) → T (t .knows q h) → Counted t s h (t .declarer h) q
   knows-counted zero q h le l n = let z = sd .lower q (sd .known q h n .0) in absurd (omega arith)
   knows-counted (suc f) q h le l n =

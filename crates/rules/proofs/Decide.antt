@@ -92,7 +92,7 @@ module _ (t : Table) (s : State) where
         let v = o .1 in
         ready-in (g d o) f (omega arith)))))
 
-    -- every place looked at is good
+    -- every counted place waits, or is parted with a live child that knows h
     waits-or-parts : {q : ℕ} → Ready t s h q → WaitsOrParts t s h q
     waits-or-parts (waits w) = inl w
     waits-or-parts (parts x e c a g) = inr (x, e, (c, a))

@@ -1,22 +1,28 @@
--- Whom a meet and a poison change, and how.
+-- Whom a throw, a close, a meet and a poison change, and how.
 use mathlib.Core.Path.{_≡_, refl, sym, ap, subst, _∙_}
-use mathlib.Core.Bool.{Bool, true, false, cond, not}
-use mathlib.Core.Logic.{_⊎_, inl, inr}
+use mathlib.Core.Bool.{Bool, true, false, cond, not, _&&_}
+use mathlib.Core.Logic.{_⊎_, inl, inr, _≢_}
 use mathlib.Core.Option.{Option, some, none, Option·getD, Option·map}
 use Prim.Native.Nat.{ℕ, zero, suc, _<_, _≤_}
 use native.Mathlib.Omega.{arith}
-use lib.Dec.{T, eqb, eqb-refl}
+use lib.Dec.{T, eqb, eqb→eq, eqb-refl}
 use Rattle.numbers.specs.Kinds.{Meaning}
 use Rattle.rules.specs.Programs.{Table, awaits}
 use Rattle.rules.specs.Soundness.{Sound}
-use Rattle.rules.specs.States.{State, Local, idle, running, parted, finished, poisoned, isIdle, Mark, lesser, meet, poison}
+use Rattle.rules.specs.States.{State, Local, idle, running, parted, finished, poisoned, isIdle, Mark, lesser, step, close, meet, poison}
+use Rattle.rules.specs.Trees.{nonzero, Within, within, Child}
+use Rattle.rules.specs.Steps.{act-at, act-mark, raise}
 use Rattle.rules.specs.Readiness.{Waits, Counted, counted}
 use Rattle.rules.specs.Permissions.{Permitted}
-use Rattle.rules.specs.Effects.{MarkChange, keep, lower-to, changed}
-use Rattle.rules.specs.Moves.{made, observed, runs-at, parts-at, owns, owns-at, any-below}
+use Rattle.rules.specs.Effects.{MarkChange, keep, lower-to, reset, changed}
+use Rattle.rules.specs.Moves.{made, closing, after-close, observed, runs-at, parts-at, owns, owns-at, any-below}
 use Rattle.rules.specs.Invariants.{Wf}
-use Rattle.rules.specs.EffectLaws.{Counted-next, Meets, Meet-tells, Poisons, Poison-tells}
-use Rattle.lemmas.proofs.Tests.{T-true, look}
+use Rattle.rules.specs.EffectLaws.{Counted-next, Meet-tells, Poison-tells, Throw-tells, Close-tells}
+use Rattle.rules.specs.Denials.{Throws}
+use Rattle.lemmas.proofs.Tests.{T-and, and-T, T-true, T-false, look}
+use Rattle.rules.proofs.Tree.{→climbs}
+use Rattle.rules.proofs.Branches.{closed-child}
+use Rattle.rules.proofs.Denied.{throwing, throw-stays-inside, lesser-wins}
 use Rattle.rules.proofs.Bounds.{any-in}
 use Rattle.rules.proofs.Decide.{counted-tells}
 use Rattle.rules.proofs.Places.{observed-inv}
@@ -33,6 +39,50 @@ owns-own c h o e = subst (λ (v : Option (ℕ × ℕ)). T (owns v c)) (sym e) (e
 lowest : (m : Mark) → lesser m 0 ≡ some 0
 lowest none = refl
 lowest (some j) = ap some (omega arith)
+
+pub throw-tells : Throw-tells
+throw-tells k t s p g j sd a =
+    record {
+      thrower =
+          ap (λ v. Option·getD (act-at t p v p) (s .at p)) e
+          ∙ ap (λ b. Option·getD (cond b (some poisoned) none) (s .at p)) (T-true (eqb p p) (eqb-refl p));
+      tried = lesser-wins k t s p g j a;
+      between = λ q ne u v.
+          ap (λ o. changed (act-mark t p o q) (s .mark q)) e
+          ∙ ap (λ b. changed (cond b (lower-to j) (cond (within t g q && within t q (t .parent p)) (lower-to 0) keep)) (s .mark q))
+          (T-false (eqb q g) (λ h. ne (eqb→eq q g h)))
+          ∙ ap (λ b. changed (cond b (lower-to 0) keep) (s .mark q))
+          (T-true (within t g q && within t q (t .parent p)) (and-T (within t g q) (within t q (t .parent p)) (tested g q u) (tested q (t .parent p) v)))
+          ∙ lowest (s .mark q);
+      other-places = λ q. throw-stays-inside k t s p g j q a .0;
+      other-marks = λ q. throw-stays-inside k t s p g j q a .1;
+    }
+  where
+    e : Rattle.rules.specs.Steps.doing k t s (s .at p) ≡ raise g j
+    e = throwing k t s p g j a
+
+    tested : (u v : ℕ) → Within t u v → T (within t u v)
+    tested u v w = →climbs (t .parent) nonzero u (sd .lower) w v (omega arith)
+
+pub close-tells : Close-tells
+close-tells k t s p x sd e =
+    record {
+      stands =
+          ap (λ b. Option·getD (cond b (some (closing t (s .mark p) (s .at p))) (cond (nonzero p && eqb (t .parent p) p) (some idle) none)) (s .at p))
+          (T-true (eqb p p) (eqb-refl p))
+          ∙ ap (closing t (s .mark p)) e;
+      unmarked = ap (λ b. changed (cond b reset keep) (s .mark p)) (T-true (eqb p p) (eqb-refl p));
+      children = λ c d. closed-child k t sd s p c d;
+      other-places = λ q ne nc.
+          ap (λ b. Option·getD (cond b (some (closing t (s .mark p) (s .at p))) (cond (nonzero q && eqb (t .parent q) p) (some idle) none)) (s .at q))
+          (T-false (eqb q p) (λ h. ne (eqb→eq q p h)))
+          ∙ ap (λ b. Option·getD (cond b (some idle) none) (s .at q))
+          (T-false (nonzero q && eqb (t .parent q) p) (λ h.
+          let c = T-and (nonzero q) (eqb (t .parent q) p) h in nc (c .0, eqb→eq (t .parent q) p (c .1))));
+      other-marks = λ q ne. ap (λ b. changed (cond b reset keep) (s .mark q)) (T-false (eqb q p) (λ h. ne (eqb→eq q p h)));
+      cells = refl;
+      ports = refl;
+    }
 
 pub meet-tells : Meet-tells
 meet-tells k t s h sd wf pm =

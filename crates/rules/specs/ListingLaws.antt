@@ -63,3 +63,7 @@ abbrev pub Verdict-moving : Type 0
 Verdict-moving =
     (t : Table) (s : State) (n : ℕ) → Sound t → Wf t s → Homes-inside t n
     → (verdict t n s ≡ Moving) ↔ ((s .at 0 ≡ finished → ⊥) × ((m : Move) × Permitted t s m))
+
+-- A finished board is at rest.
+abbrev pub Finished-rests : Type 0
+Finished-rests = (t : Table) (s : State) → Sound t → Wf t s → s .at 0 ≡ finished → Rests t s

@@ -9,6 +9,7 @@ ghost use Rattle.rules.specs.ListingLaws.{
   Verdict-finished,
   Verdict-deadlock,
   Verdict-moving,
+  Finished-rests,
 };
 
 // A kind and two numbers name a move exactly if it exists and this is its name.
@@ -30,11 +31,12 @@ pub fn listing_tells() -> u8
     0
 }
 
-// The verdict is finished if place 0 is, else deadlock at rest, else moving.
+// The verdict is finished if place 0 is, else deadlock at rest, else moving; a finished board is at rest.
 pub fn verdict_tells() -> u8
     ensures finished { λ _. ⌜ Verdict-finished ⌝ }
     ensures deadlock { λ _. ⌜ Verdict-deadlock ⌝ }
     ensures moving { λ _. ⌜ Verdict-moving ⌝ }
+    ensures rests { λ _. ⌜ Finished-rests ⌝ }
 {
     0
 }
