@@ -26,4 +26,6 @@ add-self c =
     search needs
 
 pub ghost-self-2 : need.ghost-self-2
-ghost-self-2 c = (token-within (c .args .self .now .text .now) (c .run-end-at .result) (c .in-Continue-token .token) (omega arith) (c .in-Continue-token .ensures tt), tt)
+ghost-self-2 c =
+    let w = token-within (c .args .self .now .text .now) (c .run-end-at .result) (c .in-Continue-token .token) (omega arith) (c .in-Continue-token .ensures tt) in
+    (omega arith, tt)
