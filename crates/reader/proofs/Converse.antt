@@ -76,8 +76,8 @@ gaps (x ∷ g) (y ∷ h) ys zs e a b p q =
     let l = k .0 in
     ((let s : x ∷ g ≡ y ∷ h = cc in s), k .1)
 
-dark-sign : (w : List ℕ) → Among w signs → blank (getD w 0 0) ≡ false
-dark-sign w = listed (λ v. blank (getD v 0 0) ≡ false) w signs (refl, (refl, (refl, (refl, (refl, (refl, (refl, (refl, (refl, (refl, (refl, (refl, (refl, tt)))))))))))))
+sign-byte : (w : List ℕ) → Among w signs → blank (getD w 0 0) ≡ false
+sign-byte w = listed (λ v. blank (getD v 0 0) ≡ false) w signs (refl, (refl, (refl, (refl, (refl, (refl, (refl, (refl, (refl, (refl, (refl, (refl, (refl, tt)))))))))))))
 
 no-letter : (b : ℕ) → Letter b → Separates b → ⊥
 no-letter b (inl h) (inl e) = let x = h .0 in omega arith
@@ -100,7 +100,7 @@ starts c (b ∷ bs) rest f = (
   elim (form-kind c (b ∷ bs) [] b (bs ++ []) refl f) [
     | inl k ↦ no-letter b (letter-is b (k .0))
     | inr (inl k) ↦ no-digit b (digit-is b (k .0))
-    | inr (inr k) ↦ λ s. both-ways (blank b) (dark-sign (b ∷ bs) (k .2)) (is-blank b s)
+    | inr (inr k) ↦ λ s. both-ways (blank b) (sign-byte (b ∷ bs) (k .2)) (is-blank b s)
   ],
   omega arith,
 )

@@ -89,8 +89,8 @@ module _ (text : List ℕ) (at : ℕ) (h : at ≤ length text) where
   pub next-within : next-at text at ≤ length text
   next-within = let s = run-short blank (drop at text) in let l = length-drop at text in omega arith
 
-  pub next-dark : (o : ℕ) → o ≡ next-at text at → o < length text → blank (getD text o 0) ≡ false
-  next-dark o e k =
+  pub next-byte : (o : ℕ) → o ≡ next-at text at → o < length text → blank (getD text o 0) ≡ false
+  next-byte o e k =
       let l = length-drop at text in
       ap (λ (i : ℕ). blank (getD text i 0)) e
       ∙ ap blank (sym (getD-drop at text (length (run blank (drop at text))) 0))

@@ -117,7 +117,7 @@ fn equal_at(text: &[u8], at: usize) -> Token
 // The token that begins at an index where no separator stands.
 fn token_at(text: &[u8], at: usize) -> Result<Token, Fault>
     requires within { ⌜ at < length (now text) ⌝ }
-    requires dark { ⌜ tokens.blank (getD (now text) at 0) ≡ false ⌝ }
+    requires token_byte { ⌜ tokens.blank (getD (now text) at 0) ≡ false ⌝ }
     ensures { λ r. ⌜ Shows (now (text .entry)) at (first-of (drop at (now (text .entry)))) r ⌝ }
 {
     match begins(text[at]) {

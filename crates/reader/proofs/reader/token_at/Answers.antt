@@ -18,6 +18,6 @@ returns-in-Number c = number-here (c .args .text .now) (c .args .at) (c .pre .wi
 pub returns-in-Separator : need.returns-in-Separator
 returns-in-Separator c =
     elim (c .in-Separator .is) [
-      | inl e ↦ separator-here (c .args .text .now) (c .args .at) (c .pre .within) (c .pre .dark) (sym e ∙ c .begins .ensures)
+      | inl e ↦ separator-here (c .args .text .now) (c .args .at) (c .pre .within) (c .pre .token-byte) (sym e ∙ c .begins .ensures)
       | inr e ↦ nothing-here (c .args .text .now) (c .args .at) (c .pre .within) (c .no-token .result) (c .no-token .ensures) (sym e ∙ c .begins .ensures)
     ]

@@ -1,9 +1,10 @@
 use mathlib.Core.Path.{_≡_, refl, sym, ap, _∙_}
 use mathlib.Core.List.{List, [], _∷_}
 use Prim.Native.Nat.{ℕ}
+use native.Mathlib.Omega.{arith}
 use lib.ListN.{getD}
 use denote.Enum.Declared.{tagOf}
-use Rattle.std.proofs.shelf.Tests.{eqb-true, eq-eqb}
+use Rattle.std.proofs.shelf.Ways.{tells}
 use Rattle.reader.specs.contracts.token.Tag.{the-type}
 use Rattle.reader.specs.declared.token.Tag.{Tag}
 use Rattle.reader.specs.declared.token.Tag.the-variants.{Name, Number, OpenParen, CloseParen, OpenBrace, CloseBrace, Comma, Semicolon, Ampersand, Assign, Plus, Minus, Star, Less, Equals, Var, Next, Know, Take, If, Else, While, Par, Try, Catch, Throw, Proc, Main, End}
@@ -45,7 +46,9 @@ back Main = refl
 back End = refl
 
 pub returns : need.returns
-returns c = (
-  λ e. sym (back (c .args .self)) ∙ ap (λ (n : ℕ). getD in-order n End) (eqb-true (tagOf the-type (c .args .self)) (tagOf the-type (c .args .other)) e) ∙ back (c .args .other),
-  λ e. eq-eqb (tagOf the-type (c .args .self)) (tagOf the-type (c .args .other)) (ap (tagOf the-type) e),
-)
+returns c =
+    let m = tagOf the-type (c .args .self) in
+    let n = tagOf the-type (c .args .other) in (
+      λ e. let q : m ≡ n = grind (arith, tells) in sym (back (c .args .self)) ∙ ap (λ (n : ℕ). getD in-order n End) q ∙ back (c .args .other),
+      λ e. let q : m ≡ n = ap (tagOf the-type) e in grind (arith, tells),
+    )
