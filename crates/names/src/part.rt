@@ -3,22 +3,13 @@ ghost use mathlib.Core.Path.{_≡_};
 ghost use Rattle.reader.specs.Tokens.{same};
 ghost use Rattle.grammar.specs.Views.{name};
 use grammar::tree::Name;
+use reader::reader::part;
 
 // The bytes of a name, as many of them as the text has.
 pub fn bytes(text: &[u8], n: Name) -> &[u8]
     ensures { λ r. ⌜ now r ≡ name (now (text .entry)) n .text ⌝ }
 {
-    let at = n.at;
-    let len = n.len;
-    if at >= text.len() {
-        return &text[0..0];
-    }
-    let rest = &text[at..];
-    if len >= rest.len() {
-        rest
-    } else {
-        &rest[0..len]
-    }
+    part(text, n.at, n.len)
 }
 
 // Whether two names are spelled alike.
