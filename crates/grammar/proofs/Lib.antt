@@ -4,3 +4,7 @@ pub mod ExpressionGrammar
 pub mod ProgramGrammar
 pub mod Locality
 pub mod Refusals
+pub mod Tags
+pub mod Telling
+pub mod Operators
+pub mod ExpressionSteps

@@ -3,3 +3,5 @@ pub mod Views
 pub mod Parsers
 pub mod Parsing
 pub mod Language
+pub mod Reading
+pub mod Readers

@@ -1,4 +1,6 @@
 // The second stage of clearing: tokens become a tree.
 
+mod expressions;
+mod look;
 pub mod theorems;
 pub mod tree;
