@@ -8,3 +8,5 @@ pub mod Tags
 pub mod Telling
 pub mod Operators
 pub mod ExpressionSteps
+pub mod SimpleSteps
+pub mod StatementSteps

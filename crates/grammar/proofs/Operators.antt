@@ -8,13 +8,14 @@ use lib.Dec.{eqb}
 use lib.Chars.{codes}
 use Rattle.std.proofs.shelf.Tests.{ne-eqb}
 use Rattle.reader.specs.declared.token.Token.{Token}
+use Rattle.reader.specs.declared.token.Tag.{Tag}
 use Rattle.reader.specs.declared.token.Tag.the-variants as tags
-use Rattle.grammar.specs.Trees.{Op, Same, Less, Plus, Minus, Times}
+use Rattle.grammar.specs.Trees.{Name, Var, Op, Same, Less, Plus, Minus, Times}
 use Rattle.grammar.specs.Parsers.{Tokens, is}
 use Rattle.grammar.specs.Parsing.{op-here, equals}
-use Rattle.grammar.specs.Readers.{signs-of}
+use Rattle.grammar.specs.Readers.{signs-of, simple-of}
 use Rattle.grammar.specs.Reading.{token-at, code, from}
-use Rattle.grammar.proofs.Tags.{is-from}
+use Rattle.grammar.proofs.Tags.{is-from, tag-is}
 
 module _ (text : List ℕ) (ts : List Token) (at rank : ℕ) where
   abbrev Test : ℕ → Bool → Type 0
@@ -36,3 +37,11 @@ module _ (text : List ℕ) (ts : List Token) (at rank : ℕ) where
   op-equal b n1 n2 n3 h =
       let e : signs-of rank ≡ equals = rw (ne-eqb rank 1 n1, ne-eqb rank 2 n2, ne-eqb rank 3 n3) in
       ap (λ s. op-here s (from text ts at)) e ∙ ap (λ x. cond x (some Same) none) (is-from text tags.Equals refl ts at ∙ h)
+
+-- a word other than next, know and throw
+pub short-var : (t : Tag) (v : Name) → (t ≡ tags.Next → ⊥) → (t ≡ tags.Know → ⊥) → (t ≡ tags.Throw → ⊥) → simple-of t v ≡ Var v
+short-var t v n k w =
+    let a = ne-eqb (code t) 16 (λ e. n (tag-is t tags.Next e)) in
+    let b = ne-eqb (code t) 17 (λ e. k (tag-is t tags.Know e)) in
+    let d = ne-eqb (code t) 25 (λ e. w (tag-is t tags.Throw e)) in
+    rw (a, b, d)

@@ -1,8 +1,8 @@
 -- What code answers that reads tokens from an index on, against the parsers.
 use mathlib.Core.Path.{_≡_}
-use mathlib.Core.List.{List, [], _∷_}
+use mathlib.Core.List.{List, [], _∷_, _++_}
 use mathlib.Core.Option.{Option, some, none}
-use Prim.Native.Nat.{ℕ, _<_, _≤_}
+use Prim.Native.Nat.{ℕ, _+_, _<_, _≤_}
 use lib.ListN.{length, getD, drop}
 use Rattle.std.specs.declared.result.Result.{Result}
 use Rattle.std.specs.declared.result.Result.the-variants.{Ok, Err}
@@ -45,7 +45,7 @@ use Rattle.reader.specs.declared.token.Tag.the-variants.{
 use Rattle.reader.specs.declared.fault.Fault.{Fault}
 use Rattle.reader.specs.declared.fault.Error.{Error}
 use Rattle.reader.specs.declared.fault.Error.the-variants.{Refused, OutOfMemory}
-use Rattle.reader.specs.Faults.{Answer}
+use Rattle.reader.specs.Faults.{Answer, _>>=_}
 use Rattle.reader.specs.Views.{lexemes}
 use Rattle.grammar.specs.declared.tree.Operator.{Operator}
 use Rattle.grammar.specs.Trees.{Op}
@@ -98,13 +98,29 @@ pub data Tells {V A : Type 0} (f : V → A) : Result V Error → Answer A → Ty
   fault : (g : Fault) → Tells f (Err (Refused g)) (Err g)
   no-memory : (a : Answer A) → Tells f (Err OutOfMemory) a
 
--- a value that was read from an index on, and the index after it
+-- a value that was read from an index on, and the index after it; names of the value are parts of a text
+abbrev pub ReadsIn : {V A : Type 0} → (List ℕ → V → A) → (List ℕ → Parser A) → List Token → ℕ → Result (V × ℕ) Error → Type 0
+ReadsIn {V} view p ts at r = (text : List ℕ) → Tells (λ (v : V × ℕ). (view text (v .0), from text ts (v .1))) r (p text (from text ts at))
+
 abbrev pub Reads : {V A : Type 0} → (List ℕ → V → A) → Parser A → List Token → ℕ → Result (V × ℕ) Error → Type 0
-Reads {V} view p ts at r = (text : List ℕ) → Tells (λ (v : V × ℕ). (view text (v .0), from text ts (v .1))) r (p (from text ts at))
+Reads view p ts at r = ReadsIn view (λ text. p) ts at r
+
+-- the same of a parser that takes a number above that of the tokens left
+abbrev pub ReadsSome : {V A : Type 0} → (List ℕ → V → A) → (ℕ → Parser A) → List Token → ℕ → Result (V × ℕ) Error → Type 0
+ReadsSome {V} view p ts at r =
+    (text : List ℕ) (n : ℕ) → length ts < n + at → Tells (λ (v : V × ℕ). (view text (v .0), from text ts (v .1))) r (p n (from text ts at))
 
 -- only the index after what was read
 abbrev pub Passes : (Tokens → Answer Tokens) → List Token → ℕ → Result ℕ Error → Type 0
 Passes p ts at r = (text : List ℕ) → Tells (λ (v : ℕ). from text ts v) r (p (from text ts at))
+
+-- a value that is made of others, which nothing refuses
+abbrev pub Makes : {V A : Type 0} → (List ℕ → V → A) → (List ℕ → A) → Result V Error → Type 0
+Makes view a r = (text : List ℕ) → Tells (view text) r (Ok (a text))
+
+-- what was gathered already stands in front of what is read
+abbrev pub in-front : {X : Type 0} → List X → Answer (List X × Tokens) → Answer (List X × Tokens)
+in-front xs m = m >>= (λ s. Ok (xs ++ s .0, s .1))
 
 -- something was read
 abbrev pub Beyond : List Token → ℕ → ℕ → Type 0
@@ -114,3 +130,7 @@ Beyond ts at next = (at < next) × (next ≤ length ts)
 abbrev pub Chosen : std-option.Option Operator → Option Op → Type 0
 Chosen std-options.None o = o ≡ none
 Chosen (std-options.Some x) o = o ≡ some (operator x)
+
+-- perhaps something was read
+abbrev pub Onward : List Token → ℕ → ℕ → Type 0
+Onward ts at next = (at ≤ next) × (next ≤ length ts)

@@ -2,6 +2,8 @@
 use mathlib.Core.List.{List, [], _∷_}
 use Prim.Native.Nat.{ℕ}
 use Rattle.std.specs.Of.Vec.{vec-items}
+use Rattle.std.specs.declared.vec.Vec.{Vec}
+use Rattle.std.specs.declared.alloc.Global.{Global}
 use Rattle.reader.specs.Views.{part}
 use Rattle.grammar.specs.declared.tree.Name as code-name
 use Rattle.grammar.specs.declared.tree.Operator as code-operator
@@ -66,6 +68,10 @@ name text n = record { text = part text (n .at) (n .len); at = n .at }
 abbrev pub names : List ℕ → List code-name.Name → List Name
 names text [] = []
 names text (n ∷ ns) = name text n ∷ names text ns
+
+-- the names in a vector
+abbrev pub view-names : List ℕ → Vec code-name.Name Global → List Name
+view-names text v = names text (vec-items v)
 
 abbrev pub operator : code-operator.Operator → Op
 operator operators.Same = Same

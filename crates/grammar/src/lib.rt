@@ -2,5 +2,7 @@
 
 mod expressions;
 mod look;
+mod simples;
+mod statements;
 pub mod theorems;
 pub mod tree;
