@@ -10,3 +10,4 @@ pub mod Operators
 pub mod ExpressionSteps
 pub mod SimpleSteps
 pub mod StatementSteps
+pub mod ProgramSteps

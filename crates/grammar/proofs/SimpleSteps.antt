@@ -59,6 +59,7 @@ short-step at f ts = go (a-name ts)
     ends : (n : Name) (m : Answer Tokens) → _≡_ {A = Answer (Stm × Tokens)} (m >>= (λ t. Ok (One at (f n), t))) (_>>=_ {B = Name × Tokens} m (λ t. Ok (n, t)) >>= (λ r. Ok (One at (f (r .0)), r .1)))
     ends n (Ok x) = refl
     ends n (Err x) = refl
+
     go : (m : Answer (Name × Tokens))
         → _≡_ {A = Answer (Stm × Tokens)} (m >>= (λ r. eat (codes ";") (r .1) >>= (λ t. Ok (One at (f (r .0)), t))))
         (_>>=_ {B = Name × Tokens} m (λ r. eat (codes ";") (r .1) >>= (λ t. Ok (r .0, t))) >>= (λ r. Ok (One at (f (r .0)), r .1)))

@@ -21,7 +21,21 @@ use Rattle.reader.specs.Views.{class-of, spelled, part}
 use Rattle.grammar.specs.Trees.{Name, If, While, Try, Take, Plain, Var, Next, Know, Throw, Stm, Two, Par, Block, Nil, Seq, Blocks, Last, Also}
 use Rattle.grammar.specs.Parsers.{Tokens, Parser, here, rest, if-so, is, eat, a-name, a-number}
 use Rattle.grammar.specs.Readers.{
-  opened, grouped-at, caught-at, named-at, short-at, block-at, statement-at, statements-at, plain-at, if-at, while-at, try-at, take-at, par-at, branches-at,
+  opened,
+  grouped-at,
+  caught-at,
+  named-at,
+  short-at,
+  block-at,
+  statement-at,
+  statements-at,
+  plain-at,
+  if-at,
+  while-at,
+  try-at,
+  take-at,
+  par-at,
+  branches-at,
 }
 use Rattle.grammar.specs.Reading.{token-at, code, from}
 use Rattle.grammar.proofs.Tags.{from-more, from-past, is-from, seen, within}
@@ -229,9 +243,9 @@ module _ (text : List ℕ) (ts : List Token) (at room : ℕ) (w : Token) (e : w 
       → statement-at room (from text ts at) ≡ refuse NotAllowed (token-at ts at .at)
   begins-none nName nOpenBrace nVar nNext nKnow nThrow nIf nWhile nTry nTake nPar =
       elim (cases-lt at (length ts)) [
-        inl l ↦
-        ap (λ u. statement-at room u) (from-more text ts at l)
-        ∙ other room (part text (token-at ts at .at) (token-at ts at .len)) (token-at ts at .at) (from text ts (at + 1)) (token-at ts at .tag)
-        (λ q. nName (ap (λ (x : Token). x .tag) e ∙ q)) (λ q. nOpenBrace (ap (λ (x : Token). x .tag) e ∙ q)) (λ q. nVar (ap (λ (x : Token). x .tag) e ∙ q)) (λ q. nNext (ap (λ (x : Token). x .tag) e ∙ q)) (λ q. nKnow (ap (λ (x : Token). x .tag) e ∙ q)) (λ q. nThrow (ap (λ (x : Token). x .tag) e ∙ q)) (λ q. nIf (ap (λ (x : Token). x .tag) e ∙ q)) (λ q. nWhile (ap (λ (x : Token). x .tag) e ∙ q)) (λ q. nTry (ap (λ (x : Token). x .tag) e ∙ q)) (λ q. nTake (ap (λ (x : Token). x .tag) e ∙ q)) (λ q. nPar (ap (λ (x : Token). x .tag) e ∙ q))
-      | inr l ↦ ap (λ u. statement-at room u) (from-past text ts at l) ∙ nothing room ∙ ap (λ (x : Token). refuse NotAllowed (x .at)) (sym (getD-past ts at (record { tag = tags.End; at = 0; len = 0 }) l))
+        | inl l ↦
+            ap (λ u. statement-at room u) (from-more text ts at l)
+            ∙ other room (part text (token-at ts at .at) (token-at ts at .len)) (token-at ts at .at) (from text ts (at + 1)) (token-at ts at .tag)
+            (λ q. nName (ap (λ (x : Token). x .tag) e ∙ q)) (λ q. nOpenBrace (ap (λ (x : Token). x .tag) e ∙ q)) (λ q. nVar (ap (λ (x : Token). x .tag) e ∙ q)) (λ q. nNext (ap (λ (x : Token). x .tag) e ∙ q)) (λ q. nKnow (ap (λ (x : Token). x .tag) e ∙ q)) (λ q. nThrow (ap (λ (x : Token). x .tag) e ∙ q)) (λ q. nIf (ap (λ (x : Token). x .tag) e ∙ q)) (λ q. nWhile (ap (λ (x : Token). x .tag) e ∙ q)) (λ q. nTry (ap (λ (x : Token). x .tag) e ∙ q)) (λ q. nTake (ap (λ (x : Token). x .tag) e ∙ q)) (λ q. nPar (ap (λ (x : Token). x .tag) e ∙ q))
+        | inr l ↦ ap (λ u. statement-at room u) (from-past text ts at l) ∙ nothing room ∙ ap (λ (x : Token). refuse NotAllowed (x .at)) (sym (getD-past ts at (record { tag = tags.End; at = 0; len = 0 }) l))
       ]

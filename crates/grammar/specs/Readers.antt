@@ -12,8 +12,36 @@ use Rattle.grammar.specs.Trees.{Name, Exp, Simple, Var, Next, Know, Throw, Stm
 use Rattle.grammar.specs.Reading.{code}
 use Rattle.grammar.specs.Parsers.{Tokens, Parser, here, eat, a-name}
 use Rattle.grammar.specs.Parsing.{
-  Signs, products, sums, lesses, equals, level, negated, atom, an-expression, in-parens, arguments, of-name, more-blocks, a-par, an-if, a-while, a-try, a-take, a-block,
-  named, a-set, a-call, statement, statements, block, parameters, a-proc, procedures,
+  Signs,
+  products,
+  sums,
+  lesses,
+  equals,
+  level,
+  negated,
+  atom,
+  an-expression,
+  in-parens,
+  arguments,
+  of-name,
+  more-blocks,
+  a-par,
+  an-if,
+  a-while,
+  a-try,
+  a-take,
+  a-block,
+  named,
+  a-set,
+  a-call,
+  statement,
+  statements,
+  block,
+  a-param,
+  more-params,
+  parameters,
+  a-proc,
+  procedures,
 }
 
 -- an opening bracket, where so many may still be opened
@@ -100,3 +128,24 @@ par-at room at = a-par (λ u. block room u) at
 -- up to so many branches more
 unfoldable pub branches-at : ℕ → ℕ → Parser Blocks
 branches-at room n = more-blocks (λ u. block room u) n
+
+unfoldable pub param-at : Parser Param
+param-at = a-param
+
+unfoldable pub parameters-at : Parser (List Param)
+parameters-at = parameters
+
+-- up to so many parameters more
+unfoldable pub more-params-at : ℕ → Parser (List Param)
+more-params-at = more-params
+
+-- the parameters of a procedure, in parentheses
+unfoldable pub listed-at : Parser (List Param)
+listed-at = in-parens 16 (λ n. parameters)
+
+unfoldable pub proc-at : Parser Proc
+proc-at = a-proc
+
+-- the number is more than the number of tokens left
+unfoldable pub procedures-at : ℕ → Parser (List Proc)
+procedures-at = procedures

@@ -122,12 +122,18 @@ abbrev pub params : List ℕ → List code-param.Param → List Param
 params text [] = []
 params text (p ∷ ps) = param text p ∷ params text ps
 
+abbrev pub view-params : List ℕ → Vec code-param.Param Global → List Param
+view-params text v = params text (vec-items v)
+
 abbrev pub proc : List ℕ → code-proc.Proc → Proc
 proc text p = record { name = name text (p .name); params = params text (vec-items (p .params)); body = block text (p .body) }
 
 abbrev pub procs : List ℕ → List code-proc.Proc → List Proc
 procs text [] = []
 procs text (p ∷ ps) = proc text p ∷ procs text ps
+
+abbrev pub view-procs : List ℕ → Vec code-proc.Proc Global → List Proc
+view-procs text v = procs text (vec-items v)
 
 abbrev pub tree : List ℕ → code-tree.Tree → Tree
 tree text t = record { procs = procs text (vec-items (t .procs)); main = block text (t .main) }

@@ -2,6 +2,7 @@
 
 mod expressions;
 mod look;
+pub mod programs;
 mod simples;
 mod statements;
 pub mod theorems;

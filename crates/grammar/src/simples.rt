@@ -43,7 +43,12 @@ fn arguments(heap: Global, tokens: &[Token], at: usize) -> Result<(Vec<Name>, us
 }
 
 // The arguments of a call, in parentheses.
-fn called(heap: Global, tokens: &[Token], at: usize, room: usize) -> Result<(Vec<Name>, usize), Error>
+fn called(
+    heap: Global,
+    tokens: &[Token],
+    at: usize,
+    room: usize,
+) -> Result<(Vec<Name>, usize), Error>
     ensures tells { λ r. ⌜ Reads view-names (called-at room) (now (tokens .entry)) at r ⌝ }
     ensures beyond { λ r. ⌜ made r (λ v. Beyond (now (tokens .entry)) at (v .1)) ⌝ }
 {
@@ -65,7 +70,13 @@ pub fn caught(tokens: &[Token], at: usize, room: usize) -> Result<(Name, usize),
 }
 
 // What stands after the `=` of an assignment.
-fn set(heap: Global, tokens: &[Token], at: usize, room: usize, target: Name) -> Result<(Stmt, usize), Error>
+fn set(
+    heap: Global,
+    tokens: &[Token],
+    at: usize,
+    room: usize,
+    target: Name,
+) -> Result<(Stmt, usize), Error>
     ensures tells { λ r. ⌜ ReadsIn view-stm (λ text. set-at room (view-name text target)) (now (tokens .entry)) at r ⌝ }
     ensures beyond { λ r. ⌜ made r (λ v. Beyond (now (tokens .entry)) at (v .1)) ⌝ }
 {
@@ -75,7 +86,13 @@ fn set(heap: Global, tokens: &[Token], at: usize, room: usize, target: Name) -> 
 }
 
 // What stands after the name of a procedure that is called.
-fn call(heap: Global, tokens: &[Token], at: usize, room: usize, target: Name) -> Result<(Stmt, usize), Error>
+fn call(
+    heap: Global,
+    tokens: &[Token],
+    at: usize,
+    room: usize,
+    target: Name,
+) -> Result<(Stmt, usize), Error>
     ensures tells { λ r. ⌜ ReadsIn view-stm (λ text. call-at room (view-name text target)) (now (tokens .entry)) at r ⌝ }
     ensures beyond { λ r. ⌜ made r (λ v. Beyond (now (tokens .entry)) at (v .1)) ⌝ }
 {
@@ -85,7 +102,13 @@ fn call(heap: Global, tokens: &[Token], at: usize, room: usize, target: Name) ->
 }
 
 // What stands after the name that a statement begins with.
-pub fn named(heap: Global, tokens: &[Token], at: usize, room: usize, target: Name) -> Result<(Stmt, usize), Error>
+pub fn named(
+    heap: Global,
+    tokens: &[Token],
+    at: usize,
+    room: usize,
+    target: Name,
+) -> Result<(Stmt, usize), Error>
     ensures tells { λ r. ⌜ ReadsIn view-stm (λ text. named-at room (view-name text target)) (now (tokens .entry)) at r ⌝ }
     ensures beyond { λ r. ⌜ made r (λ v. Beyond (now (tokens .entry)) at (v .1)) ⌝ }
 {

@@ -61,7 +61,12 @@ fn par(heap: Global, offset: usize, branches: Blocks) -> Result<Stmt, Error>
 }
 
 // Statements in braces.
-pub fn block(heap: Global, tokens: &[Token], at: usize, room: usize) -> Result<(Block, usize), Error>
+pub fn block(
+    heap: Global,
+    tokens: &[Token],
+    at: usize,
+    room: usize,
+) -> Result<(Block, usize), Error>
     ensures tells { λ r. ⌜ Reads view-block (block-at room) (now (tokens .entry)) at r ⌝ }
     ensures beyond { λ r. ⌜ made r (λ v. Beyond (now (tokens .entry)) at (v .1)) ⌝ }
 {
@@ -72,7 +77,12 @@ pub fn block(heap: Global, tokens: &[Token], at: usize, room: usize) -> Result<(
 }
 
 // The statements before the next `}`.
-fn statements(heap: Global, tokens: &[Token], at: usize, room: usize) -> Result<(Block, usize), Error>
+fn statements(
+    heap: Global,
+    tokens: &[Token],
+    at: usize,
+    room: usize,
+) -> Result<(Block, usize), Error>
     requires { ⌜ at ≤ length (now tokens) ⌝ }
     ensures tells { λ r. ⌜ ReadsSome view-block (statements-at room) (now (tokens .entry)) at r ⌝ }
     ensures onward { λ r. ⌜ made r (λ v. Onward (now (tokens .entry)) at (v .1)) ⌝ }
@@ -93,7 +103,16 @@ fn statement(heap: Global, tokens: &[Token], at: usize, room: usize) -> Result<(
 {
     let word = token(tokens, at);
     match word.tag {
-        Tag::Name => named(heap, tokens, at + 1, room, Name { at: word.at, len: word.len }),
+        Tag::Name => named(
+            heap,
+            tokens,
+            at + 1,
+            room,
+            Name {
+                at: word.at,
+                len: word.len,
+            },
+        ),
         Tag::OpenBrace => block_statement(heap, tokens, at, room, word.at),
         Tag::Var => short(tokens, at + 1, word.at, Tag::Var),
         Tag::Next => short(tokens, at + 1, word.at, Tag::Next),
@@ -108,7 +127,13 @@ fn statement(heap: Global, tokens: &[Token], at: usize, room: usize) -> Result<(
     }
 }
 
-fn block_statement(heap: Global, tokens: &[Token], at: usize, room: usize, offset: usize) -> Result<(Stmt, usize), Error>
+fn block_statement(
+    heap: Global,
+    tokens: &[Token],
+    at: usize,
+    room: usize,
+    offset: usize,
+) -> Result<(Stmt, usize), Error>
     ensures tells { λ r. ⌜ Reads view-stm (plain-at room offset) (now (tokens .entry)) at r ⌝ }
     ensures beyond { λ r. ⌜ made r (λ v. Beyond (now (tokens .entry)) at (v .1)) ⌝ }
 {
@@ -118,7 +143,13 @@ fn block_statement(heap: Global, tokens: &[Token], at: usize, room: usize, offse
 }
 
 // What stands after `if`.
-fn if_statement(heap: Global, tokens: &[Token], at: usize, room: usize, offset: usize) -> Result<(Stmt, usize), Error>
+fn if_statement(
+    heap: Global,
+    tokens: &[Token],
+    at: usize,
+    room: usize,
+    offset: usize,
+) -> Result<(Stmt, usize), Error>
     ensures tells { λ r. ⌜ Reads view-stm (if-at room offset) (now (tokens .entry)) at r ⌝ }
     ensures beyond { λ r. ⌜ made r (λ v. Beyond (now (tokens .entry)) at (v .1)) ⌝ }
 {
@@ -131,7 +162,13 @@ fn if_statement(heap: Global, tokens: &[Token], at: usize, room: usize, offset: 
 }
 
 // What stands after `while`.
-fn while_statement(heap: Global, tokens: &[Token], at: usize, room: usize, offset: usize) -> Result<(Stmt, usize), Error>
+fn while_statement(
+    heap: Global,
+    tokens: &[Token],
+    at: usize,
+    room: usize,
+    offset: usize,
+) -> Result<(Stmt, usize), Error>
     ensures tells { λ r. ⌜ Reads view-stm (while-at room offset) (now (tokens .entry)) at r ⌝ }
     ensures beyond { λ r. ⌜ made r (λ v. Beyond (now (tokens .entry)) at (v .1)) ⌝ }
 {
@@ -142,7 +179,13 @@ fn while_statement(heap: Global, tokens: &[Token], at: usize, room: usize, offse
 }
 
 // What stands after `try`.
-fn try_statement(heap: Global, tokens: &[Token], at: usize, room: usize, offset: usize) -> Result<(Stmt, usize), Error>
+fn try_statement(
+    heap: Global,
+    tokens: &[Token],
+    at: usize,
+    room: usize,
+    offset: usize,
+) -> Result<(Stmt, usize), Error>
     ensures tells { λ r. ⌜ Reads view-stm (try-at room offset) (now (tokens .entry)) at r ⌝ }
     ensures beyond { λ r. ⌜ made r (λ v. Beyond (now (tokens .entry)) at (v .1)) ⌝ }
 {
@@ -155,7 +198,13 @@ fn try_statement(heap: Global, tokens: &[Token], at: usize, room: usize, offset:
 }
 
 // What stands after `take`.
-fn take_statement(heap: Global, tokens: &[Token], at: usize, room: usize, offset: usize) -> Result<(Stmt, usize), Error>
+fn take_statement(
+    heap: Global,
+    tokens: &[Token],
+    at: usize,
+    room: usize,
+    offset: usize,
+) -> Result<(Stmt, usize), Error>
     ensures tells { λ r. ⌜ Reads view-stm (take-at room offset) (now (tokens .entry)) at r ⌝ }
     ensures beyond { λ r. ⌜ made r (λ v. Beyond (now (tokens .entry)) at (v .1)) ⌝ }
 {
@@ -168,7 +217,13 @@ fn take_statement(heap: Global, tokens: &[Token], at: usize, room: usize, offset
 }
 
 // What stands after `par`: two to eight blocks and `;`.
-fn par_statement(heap: Global, tokens: &[Token], at: usize, room: usize, offset: usize) -> Result<(Stmt, usize), Error>
+fn par_statement(
+    heap: Global,
+    tokens: &[Token],
+    at: usize,
+    room: usize,
+    offset: usize,
+) -> Result<(Stmt, usize), Error>
     ensures tells { λ r. ⌜ Reads view-stm (par-at room offset) (now (tokens .entry)) at r ⌝ }
     ensures beyond { λ r. ⌜ made r (λ v. Beyond (now (tokens .entry)) at (v .1)) ⌝ }
 {
@@ -183,7 +238,13 @@ fn par_statement(heap: Global, tokens: &[Token], at: usize, room: usize, offset:
 }
 
 // Up to so many blocks more.
-fn branches(heap: Global, tokens: &[Token], at: usize, room: usize, left: usize) -> Result<(Blocks, usize), Error>
+fn branches(
+    heap: Global,
+    tokens: &[Token],
+    at: usize,
+    room: usize,
+    left: usize,
+) -> Result<(Blocks, usize), Error>
     requires { ⌜ at ≤ length (now tokens) ⌝ }
     ensures tells { λ r. ⌜ Reads view-blocks (branches-at room left) (now (tokens .entry)) at r ⌝ }
     ensures onward { λ r. ⌜ made r (λ v. Onward (now (tokens .entry)) at (v .1)) ⌝ }

@@ -13,7 +13,7 @@ abbrev pub Inv-loop-names : given.InvT-loop-names
 Inv-loop-names l =
     (l .at ≤ l .here) × (l .here ≤ length (l .tokens))
     × ((text : List ℕ) → (k : ℕ) × (length (l .tokens) < k + l .here)
-      × (arguments-at (from text (l .tokens) (l .at)) ≡ in-front (view-names text (l .names)) (more-names k (from text (l .tokens) (l .here)))))
+    × (arguments-at (from text (l .tokens) (l .at)) ≡ in-front (view-names text (l .names)) (more-names k (from text (l .tokens) (l .here)))))
 
 abbrev pub μ-loop-names : given.MeasureT-loop-names
 μ-loop-names l = length (l .tokens) - l .here

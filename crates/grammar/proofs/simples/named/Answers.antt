@@ -14,12 +14,12 @@ pub returns-then-sees : need.returns-then-sees
 returns-then-sees c =
     record {
       tells = λ text. via (named-set text (c .args .tokens .now) (c .args .at) (c .args .room) (name text (c .args .target)) (sym (c .sees .ensures) ∙ c .if-sees .taken)) (c .set .ensures .tells text);
-      beyond = further (c .set .result) (c .args .tokens .now) (c .args .at) (c .set .ensures .beyond)
+      beyond = further (c .set .result) (c .args .tokens .now) (c .args .at) (c .set .ensures .beyond);
     }
 
 pub returns-else-sees : need.returns-else-sees
 returns-else-sees c =
     record {
       tells = λ text. via (named-call text (c .args .tokens .now) (c .args .at) (c .args .room) (name text (c .args .target)) (sym (c .sees .ensures) ∙ c .if-sees .left)) (c .call .ensures .tells text);
-      beyond = c .call .ensures .beyond
+      beyond = c .call .ensures .beyond;
     }

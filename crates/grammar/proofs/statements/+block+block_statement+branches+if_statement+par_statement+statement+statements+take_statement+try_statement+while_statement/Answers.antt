@@ -11,8 +11,30 @@ use Rattle.grammar.proofs.Telling.{told, made-is, memory, via, valued, refuses
 use Rattle.grammar.proofs.ExpressionSteps.{from-length}
 use Rattle.grammar.proofs.SimpleSteps.{further}
 use Rattle.grammar.proofs.StatementSteps.{
-  block-step, statements-none, statements-more, plain-step, if-step, while-step, try-step, take-step, par-step, branches-none, branches-stop, branches-more,
-  begins-Name, begins-OpenBrace, begins-Var, begins-Next, begins-Know, begins-Throw, begins-If, begins-While, begins-Try, begins-Take, begins-Par, begins-none,
+  block-step,
+  statements-none,
+  statements-more,
+  plain-step,
+  if-step,
+  while-step,
+  try-step,
+  take-step,
+  par-step,
+  branches-none,
+  branches-stop,
+  branches-more,
+  begins-Name,
+  begins-OpenBrace,
+  begins-Var,
+  begins-Next,
+  begins-Know,
+  begins-Throw,
+  begins-If,
+  begins-While,
+  begins-Try,
+  begins-Take,
+  begins-Par,
+  begins-none,
 }
 use Rattle.grammar.proofs.statements.+block+block_statement+branches+if_statement+par_statement+statement+statements+take_statement+try_statement+while_statement.Needs as need
 
@@ -21,8 +43,8 @@ block-statement-returns-in-Break-body t c =
     let p = err-from-errBy (c .from-residual .result) (c .from-residual .ensures .1) in
     record {
       tells = λ text.
-        via (plain-step (c .args .room) (c .args .offset) (from text (c .args .tokens .now) (c .args .at))) (stopped _ (p .1) (p .2) (c .in-Break-body .ensures tt .tells text));
-      beyond = unmade _ (p .1)
+          via (plain-step (c .args .room) (c .args .offset) (from text (c .args .tokens .now) (c .args .at))) (stopped _ (p .1) (p .2) (c .in-Break-body .ensures tt .tells text));
+      beyond = unmade _ (p .1);
     }
 
 pub block-statement-returns-in-Break-all : need.block-statement-returns-in-Break-all
@@ -34,10 +56,10 @@ pub block-statement-returns : need.block-statement-returns
 block-statement-returns t c =
     record {
       tells = λ text.
-        let h0 = told (c .in-Continue-body .ensures tt .tells text) in
-        let m = made-is (c .in-Continue-all .ensures tt text) in
-        via (plain-step (c .args .room) (c .args .offset) (from text (c .args .tokens .now) (c .args .at))) (valued _ (rw h0 (ap (λ (x : Stm). Ok (x, from text (c .args .tokens .now) (c .in-Continue-body .after))) m)));
-      beyond = let b0 = c .in-Continue-body .ensures tt .beyond in (omega arith, omega arith)
+          let h0 = told (c .in-Continue-body .ensures tt .tells text) in
+          let m = made-is (c .in-Continue-all .ensures tt text) in
+          via (plain-step (c .args .room) (c .args .offset) (from text (c .args .tokens .now) (c .args .at))) (valued _ (rw h0 (ap (λ (x : Stm). Ok (x, from text (c .args .tokens .now) (c .in-Continue-body .after))) m)));
+      beyond = let b0 = c .in-Continue-body .ensures tt .beyond in (omega arith, omega arith);
     }
 
 pub if-statement-returns-in-Break-test : need.if-statement-returns-in-Break-test
@@ -45,8 +67,8 @@ if-statement-returns-in-Break-test t c =
     let p = err-from-errBy (c .from-residual .result) (c .from-residual .ensures .1) in
     record {
       tells = λ text.
-        via (if-step (c .args .room) (c .args .offset) (from text (c .args .tokens .now) (c .args .at))) (stopped _ (p .1) (p .2) (c .in-Break-test .ensures tt .tells text));
-      beyond = unmade _ (p .1)
+          via (if-step (c .args .room) (c .args .offset) (from text (c .args .tokens .now) (c .args .at))) (stopped _ (p .1) (p .2) (c .in-Break-test .ensures tt .tells text));
+      beyond = unmade _ (p .1);
     }
 
 pub if-statement-returns-in-Break-first : need.if-statement-returns-in-Break-first
@@ -54,9 +76,9 @@ if-statement-returns-in-Break-first t c =
     let p = err-from-errBy (c .from-residual-in-Break-first .result) (c .from-residual-in-Break-first .ensures .1) in
     record {
       tells = λ text.
-        let h0 = told (c .in-Continue-test .ensures tt .tells text) in
-        via (if-step (c .args .room) (c .args .offset) (from text (c .args .tokens .now) (c .args .at))) (rw h0 (stopped _ (p .1) (p .2) (c .in-Break-first .ensures tt .tells text)));
-      beyond = unmade _ (p .1)
+          let h0 = told (c .in-Continue-test .ensures tt .tells text) in
+          via (if-step (c .args .room) (c .args .offset) (from text (c .args .tokens .now) (c .args .at))) (rw h0 (stopped _ (p .1) (p .2) (c .in-Break-first .ensures tt .tells text)));
+      beyond = unmade _ (p .1);
     }
 
 pub if-statement-returns-in-Break-other : need.if-statement-returns-in-Break-other
@@ -64,10 +86,10 @@ if-statement-returns-in-Break-other t c =
     let p = err-from-errBy (c .from-residual-in-Break-other .result) (c .from-residual-in-Break-other .ensures .1) in
     record {
       tells = λ text.
-        let h0 = told (c .in-Continue-test .ensures tt .tells text) in
-        let h1 = told (c .in-Continue-first .ensures tt .tells text) in
-        via (if-step (c .args .room) (c .args .offset) (from text (c .args .tokens .now) (c .args .at))) (rw (h0, h1) (stopped _ (p .1) (p .2) (c .in-Break-other .ensures tt .tells text)));
-      beyond = unmade _ (p .1)
+          let h0 = told (c .in-Continue-test .ensures tt .tells text) in
+          let h1 = told (c .in-Continue-first .ensures tt .tells text) in
+          via (if-step (c .args .room) (c .args .offset) (from text (c .args .tokens .now) (c .args .at))) (rw (h0, h1) (stopped _ (p .1) (p .2) (c .in-Break-other .ensures tt .tells text)));
+      beyond = unmade _ (p .1);
     }
 
 pub if-statement-returns-in-Break-second : need.if-statement-returns-in-Break-second
@@ -75,11 +97,11 @@ if-statement-returns-in-Break-second t c =
     let p = err-from-errBy (c .from-residual-in-Break-second .result) (c .from-residual-in-Break-second .ensures .1) in
     record {
       tells = λ text.
-        let h0 = told (c .in-Continue-test .ensures tt .tells text) in
-        let h1 = told (c .in-Continue-first .ensures tt .tells text) in
-        let h2 = told (c .in-Continue-other .ensures tt .tells text) in
-        via (if-step (c .args .room) (c .args .offset) (from text (c .args .tokens .now) (c .args .at))) (rw (h0, h1, h2) (stopped _ (p .1) (p .2) (c .in-Break-second .ensures tt .tells text)));
-      beyond = unmade _ (p .1)
+          let h0 = told (c .in-Continue-test .ensures tt .tells text) in
+          let h1 = told (c .in-Continue-first .ensures tt .tells text) in
+          let h2 = told (c .in-Continue-other .ensures tt .tells text) in
+          via (if-step (c .args .room) (c .args .offset) (from text (c .args .tokens .now) (c .args .at))) (rw (h0, h1, h2) (stopped _ (p .1) (p .2) (c .in-Break-second .ensures tt .tells text)));
+      beyond = unmade _ (p .1);
     }
 
 pub if-statement-returns-in-Break-all : need.if-statement-returns-in-Break-all
@@ -91,13 +113,13 @@ pub if-statement-returns : need.if-statement-returns
 if-statement-returns t c =
     record {
       tells = λ text.
-        let h0 = told (c .in-Continue-test .ensures tt .tells text) in
-        let h1 = told (c .in-Continue-first .ensures tt .tells text) in
-        let h2 = told (c .in-Continue-other .ensures tt .tells text) in
-        let h3 = told (c .in-Continue-second .ensures tt .tells text) in
-        let m = made-is (c .in-Continue-all .ensures tt text) in
-        via (if-step (c .args .room) (c .args .offset) (from text (c .args .tokens .now) (c .args .at))) (valued _ (rw (h0, h1, h2, h3) (ap (λ (x : Stm). Ok (x, from text (c .args .tokens .now) (c .in-Continue-second .after))) m)));
-      beyond = let b0 = c .in-Continue-test .ensures tt .beyond in let b1 = c .in-Continue-first .ensures tt .beyond in let b2 = c .in-Continue-other .ensures tt .beyond in let b3 = c .in-Continue-second .ensures tt .beyond in (omega arith, omega arith)
+          let h0 = told (c .in-Continue-test .ensures tt .tells text) in
+          let h1 = told (c .in-Continue-first .ensures tt .tells text) in
+          let h2 = told (c .in-Continue-other .ensures tt .tells text) in
+          let h3 = told (c .in-Continue-second .ensures tt .tells text) in
+          let m = made-is (c .in-Continue-all .ensures tt text) in
+          via (if-step (c .args .room) (c .args .offset) (from text (c .args .tokens .now) (c .args .at))) (valued _ (rw (h0, h1, h2, h3) (ap (λ (x : Stm). Ok (x, from text (c .args .tokens .now) (c .in-Continue-second .after))) m)));
+      beyond = let b0 = c .in-Continue-test .ensures tt .beyond in let b1 = c .in-Continue-first .ensures tt .beyond in let b2 = c .in-Continue-other .ensures tt .beyond in let b3 = c .in-Continue-second .ensures tt .beyond in (omega arith, omega arith);
     }
 
 pub while-statement-returns-in-Break-test : need.while-statement-returns-in-Break-test
@@ -105,8 +127,8 @@ while-statement-returns-in-Break-test t c =
     let p = err-from-errBy (c .from-residual .result) (c .from-residual .ensures .1) in
     record {
       tells = λ text.
-        via (while-step (c .args .room) (c .args .offset) (from text (c .args .tokens .now) (c .args .at))) (stopped _ (p .1) (p .2) (c .in-Break-test .ensures tt .tells text));
-      beyond = unmade _ (p .1)
+          via (while-step (c .args .room) (c .args .offset) (from text (c .args .tokens .now) (c .args .at))) (stopped _ (p .1) (p .2) (c .in-Break-test .ensures tt .tells text));
+      beyond = unmade _ (p .1);
     }
 
 pub while-statement-returns-in-Break-body : need.while-statement-returns-in-Break-body
@@ -114,9 +136,9 @@ while-statement-returns-in-Break-body t c =
     let p = err-from-errBy (c .from-residual-in-Break-body .result) (c .from-residual-in-Break-body .ensures .1) in
     record {
       tells = λ text.
-        let h0 = told (c .in-Continue-test .ensures tt .tells text) in
-        via (while-step (c .args .room) (c .args .offset) (from text (c .args .tokens .now) (c .args .at))) (rw h0 (stopped _ (p .1) (p .2) (c .in-Break-body .ensures tt .tells text)));
-      beyond = unmade _ (p .1)
+          let h0 = told (c .in-Continue-test .ensures tt .tells text) in
+          via (while-step (c .args .room) (c .args .offset) (from text (c .args .tokens .now) (c .args .at))) (rw h0 (stopped _ (p .1) (p .2) (c .in-Break-body .ensures tt .tells text)));
+      beyond = unmade _ (p .1);
     }
 
 pub while-statement-returns-in-Break-all : need.while-statement-returns-in-Break-all
@@ -128,11 +150,11 @@ pub while-statement-returns : need.while-statement-returns
 while-statement-returns t c =
     record {
       tells = λ text.
-        let h0 = told (c .in-Continue-test .ensures tt .tells text) in
-        let h1 = told (c .in-Continue-body .ensures tt .tells text) in
-        let m = made-is (c .in-Continue-all .ensures tt text) in
-        via (while-step (c .args .room) (c .args .offset) (from text (c .args .tokens .now) (c .args .at))) (valued _ (rw (h0, h1) (ap (λ (x : Stm). Ok (x, from text (c .args .tokens .now) (c .in-Continue-body .after))) m)));
-      beyond = let b0 = c .in-Continue-test .ensures tt .beyond in let b1 = c .in-Continue-body .ensures tt .beyond in (omega arith, omega arith)
+          let h0 = told (c .in-Continue-test .ensures tt .tells text) in
+          let h1 = told (c .in-Continue-body .ensures tt .tells text) in
+          let m = made-is (c .in-Continue-all .ensures tt text) in
+          via (while-step (c .args .room) (c .args .offset) (from text (c .args .tokens .now) (c .args .at))) (valued _ (rw (h0, h1) (ap (λ (x : Stm). Ok (x, from text (c .args .tokens .now) (c .in-Continue-body .after))) m)));
+      beyond = let b0 = c .in-Continue-test .ensures tt .beyond in let b1 = c .in-Continue-body .ensures tt .beyond in (omega arith, omega arith);
     }
 
 pub try-statement-returns-in-Break-first : need.try-statement-returns-in-Break-first
@@ -140,8 +162,8 @@ try-statement-returns-in-Break-first t c =
     let p = err-from-errBy (c .from-residual .result) (c .from-residual .ensures .1) in
     record {
       tells = λ text.
-        via (try-step (c .args .room) (c .args .offset) (from text (c .args .tokens .now) (c .args .at))) (stopped _ (p .1) (p .2) (c .in-Break-first .ensures tt .tells text));
-      beyond = unmade _ (p .1)
+          via (try-step (c .args .room) (c .args .offset) (from text (c .args .tokens .now) (c .args .at))) (stopped _ (p .1) (p .2) (c .in-Break-first .ensures tt .tells text));
+      beyond = unmade _ (p .1);
     }
 
 pub try-statement-returns-in-Break-next : need.try-statement-returns-in-Break-next
@@ -149,9 +171,9 @@ try-statement-returns-in-Break-next t c =
     let p = err-from-errBy (c .from-residual-in-Break-next .result) (c .from-residual-in-Break-next .ensures .1) in
     record {
       tells = λ text.
-        let h0 = told (c .in-Continue-first .ensures tt .tells text) in
-        via (try-step (c .args .room) (c .args .offset) (from text (c .args .tokens .now) (c .args .at))) (rw h0 (stopped _ (p .1) (p .2) (c .in-Break-next .ensures tt .tells text)));
-      beyond = unmade _ (p .1)
+          let h0 = told (c .in-Continue-first .ensures tt .tells text) in
+          via (try-step (c .args .room) (c .args .offset) (from text (c .args .tokens .now) (c .args .at))) (rw h0 (stopped _ (p .1) (p .2) (c .in-Break-next .ensures tt .tells text)));
+      beyond = unmade _ (p .1);
     }
 
 pub try-statement-returns-in-Break-exception : need.try-statement-returns-in-Break-exception
@@ -159,10 +181,10 @@ try-statement-returns-in-Break-exception t c =
     let p = err-from-errBy (c .from-residual-in-Break-exception .result) (c .from-residual-in-Break-exception .ensures .1) in
     record {
       tells = λ text.
-        let h0 = told (c .in-Continue-first .ensures tt .tells text) in
-        let h1 = told (c .in-Continue-next .ensures tt .tells text) in
-        via (try-step (c .args .room) (c .args .offset) (from text (c .args .tokens .now) (c .args .at))) (rw (h0, h1) (stopped _ (p .1) (p .2) (c .in-Break-exception .ensures tt .tells text)));
-      beyond = unmade _ (p .1)
+          let h0 = told (c .in-Continue-first .ensures tt .tells text) in
+          let h1 = told (c .in-Continue-next .ensures tt .tells text) in
+          via (try-step (c .args .room) (c .args .offset) (from text (c .args .tokens .now) (c .args .at))) (rw (h0, h1) (stopped _ (p .1) (p .2) (c .in-Break-exception .ensures tt .tells text)));
+      beyond = unmade _ (p .1);
     }
 
 pub try-statement-returns-in-Break-second : need.try-statement-returns-in-Break-second
@@ -170,11 +192,11 @@ try-statement-returns-in-Break-second t c =
     let p = err-from-errBy (c .from-residual-in-Break-second .result) (c .from-residual-in-Break-second .ensures .1) in
     record {
       tells = λ text.
-        let h0 = told (c .in-Continue-first .ensures tt .tells text) in
-        let h1 = told (c .in-Continue-next .ensures tt .tells text) in
-        let h2 = told (c .in-Continue-exception .ensures tt .tells text) in
-        via (try-step (c .args .room) (c .args .offset) (from text (c .args .tokens .now) (c .args .at))) (rw (h0, h1, h2) (stopped _ (p .1) (p .2) (c .in-Break-second .ensures tt .tells text)));
-      beyond = unmade _ (p .1)
+          let h0 = told (c .in-Continue-first .ensures tt .tells text) in
+          let h1 = told (c .in-Continue-next .ensures tt .tells text) in
+          let h2 = told (c .in-Continue-exception .ensures tt .tells text) in
+          via (try-step (c .args .room) (c .args .offset) (from text (c .args .tokens .now) (c .args .at))) (rw (h0, h1, h2) (stopped _ (p .1) (p .2) (c .in-Break-second .ensures tt .tells text)));
+      beyond = unmade _ (p .1);
     }
 
 pub try-statement-returns-in-Break-all : need.try-statement-returns-in-Break-all
@@ -186,13 +208,13 @@ pub try-statement-returns : need.try-statement-returns
 try-statement-returns t c =
     record {
       tells = λ text.
-        let h0 = told (c .in-Continue-first .ensures tt .tells text) in
-        let h1 = told (c .in-Continue-next .ensures tt .tells text) in
-        let h2 = told (c .in-Continue-exception .ensures tt .tells text) in
-        let h3 = told (c .in-Continue-second .ensures tt .tells text) in
-        let m = made-is (c .in-Continue-all .ensures tt text) in
-        via (try-step (c .args .room) (c .args .offset) (from text (c .args .tokens .now) (c .args .at))) (valued _ (rw (h0, h1, h2, h3) (ap (λ (x : Stm). Ok (x, from text (c .args .tokens .now) (c .in-Continue-second .after))) m)));
-      beyond = let b0 = c .in-Continue-first .ensures tt .beyond in let b1 = c .in-Continue-next .ensures tt .beyond in let b2 = c .in-Continue-exception .ensures tt .beyond in let b3 = c .in-Continue-second .ensures tt .beyond in (omega arith, omega arith)
+          let h0 = told (c .in-Continue-first .ensures tt .tells text) in
+          let h1 = told (c .in-Continue-next .ensures tt .tells text) in
+          let h2 = told (c .in-Continue-exception .ensures tt .tells text) in
+          let h3 = told (c .in-Continue-second .ensures tt .tells text) in
+          let m = made-is (c .in-Continue-all .ensures tt text) in
+          via (try-step (c .args .room) (c .args .offset) (from text (c .args .tokens .now) (c .args .at))) (valued _ (rw (h0, h1, h2, h3) (ap (λ (x : Stm). Ok (x, from text (c .args .tokens .now) (c .in-Continue-second .after))) m)));
+      beyond = let b0 = c .in-Continue-first .ensures tt .beyond in let b1 = c .in-Continue-next .ensures tt .beyond in let b2 = c .in-Continue-exception .ensures tt .beyond in let b3 = c .in-Continue-second .ensures tt .beyond in (omega arith, omega arith);
     }
 
 pub take-statement-returns-in-Break-port : need.take-statement-returns-in-Break-port
@@ -200,8 +222,8 @@ take-statement-returns-in-Break-port t c =
     let p = err-from-errBy (c .from-residual .result) (c .from-residual .ensures .1) in
     record {
       tells = λ text.
-        via (take-step (c .args .room) (c .args .offset) (from text (c .args .tokens .now) (c .args .at))) (stopped _ (p .1) (p .2) (c .in-Break-port .ensures tt .tells text));
-      beyond = unmade _ (p .1)
+          via (take-step (c .args .room) (c .args .offset) (from text (c .args .tokens .now) (c .args .at))) (stopped _ (p .1) (p .2) (c .in-Break-port .ensures tt .tells text));
+      beyond = unmade _ (p .1);
     }
 
 pub take-statement-returns-in-Break-target : need.take-statement-returns-in-Break-target
@@ -209,9 +231,9 @@ take-statement-returns-in-Break-target t c =
     let p = err-from-errBy (c .from-residual-in-Break-target .result) (c .from-residual-in-Break-target .ensures .1) in
     record {
       tells = λ text.
-        let h0 = told (c .in-Continue-port .ensures tt .tells text) in
-        via (take-step (c .args .room) (c .args .offset) (from text (c .args .tokens .now) (c .args .at))) (rw h0 (stopped _ (p .1) (p .2) (c .in-Break-target .ensures tt .tells text)));
-      beyond = unmade _ (p .1)
+          let h0 = told (c .in-Continue-port .ensures tt .tells text) in
+          via (take-step (c .args .room) (c .args .offset) (from text (c .args .tokens .now) (c .args .at))) (rw h0 (stopped _ (p .1) (p .2) (c .in-Break-target .ensures tt .tells text)));
+      beyond = unmade _ (p .1);
     }
 
 pub take-statement-returns-in-Break-other : need.take-statement-returns-in-Break-other
@@ -219,10 +241,10 @@ take-statement-returns-in-Break-other t c =
     let p = err-from-errBy (c .from-residual-in-Break-other .result) (c .from-residual-in-Break-other .ensures .1) in
     record {
       tells = λ text.
-        let h0 = told (c .in-Continue-port .ensures tt .tells text) in
-        let h1 = told (c .in-Continue-target .ensures tt .tells text) in
-        via (take-step (c .args .room) (c .args .offset) (from text (c .args .tokens .now) (c .args .at))) (rw (h0, h1) (stopped _ (p .1) (p .2) (c .in-Break-other .ensures tt .tells text)));
-      beyond = unmade _ (p .1)
+          let h0 = told (c .in-Continue-port .ensures tt .tells text) in
+          let h1 = told (c .in-Continue-target .ensures tt .tells text) in
+          via (take-step (c .args .room) (c .args .offset) (from text (c .args .tokens .now) (c .args .at))) (rw (h0, h1) (stopped _ (p .1) (p .2) (c .in-Break-other .ensures tt .tells text)));
+      beyond = unmade _ (p .1);
     }
 
 pub take-statement-returns-in-Break-body : need.take-statement-returns-in-Break-body
@@ -230,11 +252,11 @@ take-statement-returns-in-Break-body t c =
     let p = err-from-errBy (c .from-residual-in-Break-body .result) (c .from-residual-in-Break-body .ensures .1) in
     record {
       tells = λ text.
-        let h0 = told (c .in-Continue-port .ensures tt .tells text) in
-        let h1 = told (c .in-Continue-target .ensures tt .tells text) in
-        let h2 = told (c .in-Continue-other .ensures tt .tells text) in
-        via (take-step (c .args .room) (c .args .offset) (from text (c .args .tokens .now) (c .args .at))) (rw (h0, h1, h2) (stopped _ (p .1) (p .2) (c .in-Break-body .ensures tt .tells text)));
-      beyond = unmade _ (p .1)
+          let h0 = told (c .in-Continue-port .ensures tt .tells text) in
+          let h1 = told (c .in-Continue-target .ensures tt .tells text) in
+          let h2 = told (c .in-Continue-other .ensures tt .tells text) in
+          via (take-step (c .args .room) (c .args .offset) (from text (c .args .tokens .now) (c .args .at))) (rw (h0, h1, h2) (stopped _ (p .1) (p .2) (c .in-Break-body .ensures tt .tells text)));
+      beyond = unmade _ (p .1);
     }
 
 pub take-statement-returns-in-Break-all : need.take-statement-returns-in-Break-all
@@ -246,13 +268,13 @@ pub take-statement-returns : need.take-statement-returns
 take-statement-returns t c =
     record {
       tells = λ text.
-        let h0 = told (c .in-Continue-port .ensures tt .tells text) in
-        let h1 = told (c .in-Continue-target .ensures tt .tells text) in
-        let h2 = told (c .in-Continue-other .ensures tt .tells text) in
-        let h3 = told (c .in-Continue-body .ensures tt .tells text) in
-        let m = made-is (c .in-Continue-all .ensures tt text) in
-        via (take-step (c .args .room) (c .args .offset) (from text (c .args .tokens .now) (c .args .at))) (valued _ (rw (h0, h1, h2, h3) (ap (λ (x : Stm). Ok (x, from text (c .args .tokens .now) (c .in-Continue-body .after))) m)));
-      beyond = let b0 = c .in-Continue-port .ensures tt .beyond in let b1 = c .in-Continue-target .ensures tt .beyond in let b2 = c .in-Continue-other .ensures tt .beyond in let b3 = c .in-Continue-body .ensures tt .beyond in (omega arith, omega arith)
+          let h0 = told (c .in-Continue-port .ensures tt .tells text) in
+          let h1 = told (c .in-Continue-target .ensures tt .tells text) in
+          let h2 = told (c .in-Continue-other .ensures tt .tells text) in
+          let h3 = told (c .in-Continue-body .ensures tt .tells text) in
+          let m = made-is (c .in-Continue-all .ensures tt text) in
+          via (take-step (c .args .room) (c .args .offset) (from text (c .args .tokens .now) (c .args .at))) (valued _ (rw (h0, h1, h2, h3) (ap (λ (x : Stm). Ok (x, from text (c .args .tokens .now) (c .in-Continue-body .after))) m)));
+      beyond = let b0 = c .in-Continue-port .ensures tt .beyond in let b1 = c .in-Continue-target .ensures tt .beyond in let b2 = c .in-Continue-other .ensures tt .beyond in let b3 = c .in-Continue-body .ensures tt .beyond in (omega arith, omega arith);
     }
 
 pub par-statement-returns-in-Break-first : need.par-statement-returns-in-Break-first
@@ -260,8 +282,8 @@ par-statement-returns-in-Break-first t c =
     let p = err-from-errBy (c .from-residual .result) (c .from-residual .ensures .1) in
     record {
       tells = λ text.
-        via (par-step (c .args .room) (c .args .offset) (from text (c .args .tokens .now) (c .args .at))) (stopped _ (p .1) (p .2) (c .in-Break-first .ensures tt .tells text));
-      beyond = unmade _ (p .1)
+          via (par-step (c .args .room) (c .args .offset) (from text (c .args .tokens .now) (c .args .at))) (stopped _ (p .1) (p .2) (c .in-Break-first .ensures tt .tells text));
+      beyond = unmade _ (p .1);
     }
 
 pub par-statement-returns-in-Break-second : need.par-statement-returns-in-Break-second
@@ -269,9 +291,9 @@ par-statement-returns-in-Break-second t c =
     let p = err-from-errBy (c .from-residual-in-Break-second .result) (c .from-residual-in-Break-second .ensures .1) in
     record {
       tells = λ text.
-        let h0 = told (c .in-Continue-first .ensures tt .tells text) in
-        via (par-step (c .args .room) (c .args .offset) (from text (c .args .tokens .now) (c .args .at))) (rw h0 (stopped _ (p .1) (p .2) (c .in-Break-second .ensures tt .tells text)));
-      beyond = unmade _ (p .1)
+          let h0 = told (c .in-Continue-first .ensures tt .tells text) in
+          via (par-step (c .args .room) (c .args .offset) (from text (c .args .tokens .now) (c .args .at))) (rw h0 (stopped _ (p .1) (p .2) (c .in-Break-second .ensures tt .tells text)));
+      beyond = unmade _ (p .1);
     }
 
 pub par-statement-returns-in-Break-others : need.par-statement-returns-in-Break-others
@@ -279,10 +301,10 @@ par-statement-returns-in-Break-others t c =
     let p = err-from-errBy (c .from-residual-in-Break-others .result) (c .from-residual-in-Break-others .ensures .1) in
     record {
       tells = λ text.
-        let h0 = told (c .in-Continue-first .ensures tt .tells text) in
-        let h1 = told (c .in-Continue-second .ensures tt .tells text) in
-        via (par-step (c .args .room) (c .args .offset) (from text (c .args .tokens .now) (c .args .at))) (rw (h0, h1) (stopped _ (p .1) (p .2) (c .in-Break-others .ensures tt .tells text)));
-      beyond = unmade _ (p .1)
+          let h0 = told (c .in-Continue-first .ensures tt .tells text) in
+          let h1 = told (c .in-Continue-second .ensures tt .tells text) in
+          via (par-step (c .args .room) (c .args .offset) (from text (c .args .tokens .now) (c .args .at))) (rw (h0, h1) (stopped _ (p .1) (p .2) (c .in-Break-others .ensures tt .tells text)));
+      beyond = unmade _ (p .1);
     }
 
 pub par-statement-returns-in-Break-after : need.par-statement-returns-in-Break-after
@@ -290,11 +312,11 @@ par-statement-returns-in-Break-after t c =
     let p = err-from-errBy (c .from-residual-in-Break-after .result) (c .from-residual-in-Break-after .ensures .1) in
     record {
       tells = λ text.
-        let h0 = told (c .in-Continue-first .ensures tt .tells text) in
-        let h1 = told (c .in-Continue-second .ensures tt .tells text) in
-        let h2 = told (c .in-Continue-others .ensures tt .tells text) in
-        via (par-step (c .args .room) (c .args .offset) (from text (c .args .tokens .now) (c .args .at))) (rw (h0, h1, h2) (stopped _ (p .1) (p .2) (c .in-Break-after .ensures tt .tells text)));
-      beyond = unmade _ (p .1)
+          let h0 = told (c .in-Continue-first .ensures tt .tells text) in
+          let h1 = told (c .in-Continue-second .ensures tt .tells text) in
+          let h2 = told (c .in-Continue-others .ensures tt .tells text) in
+          via (par-step (c .args .room) (c .args .offset) (from text (c .args .tokens .now) (c .args .at))) (rw (h0, h1, h2) (stopped _ (p .1) (p .2) (c .in-Break-after .ensures tt .tells text)));
+      beyond = unmade _ (p .1);
     }
 
 pub par-statement-returns-in-Break-tail : need.par-statement-returns-in-Break-tail
@@ -316,16 +338,16 @@ pub par-statement-returns : need.par-statement-returns
 par-statement-returns t c =
     record {
       tells = λ text.
-        let h0 = told (c .in-Continue-first .ensures tt .tells text) in
-        let h1 = told (c .in-Continue-second .ensures tt .tells text) in
-        let h2 = told (c .in-Continue-others .ensures tt .tells text) in
-        let h3 = told (c .in-Continue-after .ensures tt .tells text) in
-        let m4 = made-is (c .in-Continue-tail .ensures tt text) in
-        let m5 = made-is (c .in-Continue-whole .ensures tt text) in
-        let m6 = made-is (c .in-Continue-all .ensures tt text) in
-        let e = ap (λ (x : Blocks). Par (c .args .offset) x) (ap (λ (x : Blocks). Also (view.block text (c .in-Continue-first .first)) x) m4 ∙ m5) ∙ m6 in
-        via (par-step (c .args .room) (c .args .offset) (from text (c .args .tokens .now) (c .args .at))) (valued _ (rw (h0, h1, h2, h3) (ap (λ (x : Stm). Ok (x, from text (c .args .tokens .now) (c .in-Continue-after .after))) e)));
-      beyond = let b0 = c .in-Continue-first .ensures tt .beyond in let b1 = c .in-Continue-second .ensures tt .beyond in let b2 = c .in-Continue-others .ensures tt .onward in let b3 = c .in-Continue-after .ensures tt .beyond in (omega arith, omega arith)
+          let h0 = told (c .in-Continue-first .ensures tt .tells text) in
+          let h1 = told (c .in-Continue-second .ensures tt .tells text) in
+          let h2 = told (c .in-Continue-others .ensures tt .tells text) in
+          let h3 = told (c .in-Continue-after .ensures tt .tells text) in
+          let m4 = made-is (c .in-Continue-tail .ensures tt text) in
+          let m5 = made-is (c .in-Continue-whole .ensures tt text) in
+          let m6 = made-is (c .in-Continue-all .ensures tt text) in
+          let e = ap (λ (x : Blocks). Par (c .args .offset) x) (ap (λ (x : Blocks). Also (view.block text (c .in-Continue-first .first)) x) m4 ∙ m5) ∙ m6 in
+          via (par-step (c .args .room) (c .args .offset) (from text (c .args .tokens .now) (c .args .at))) (valued _ (rw (h0, h1, h2, h3) (ap (λ (x : Stm). Ok (x, from text (c .args .tokens .now) (c .in-Continue-after .after))) e)));
+      beyond = let b0 = c .in-Continue-first .ensures tt .beyond in let b1 = c .in-Continue-second .ensures tt .beyond in let b2 = c .in-Continue-others .ensures tt .onward in let b3 = c .in-Continue-after .ensures tt .beyond in (omega arith, omega arith);
     }
 
 pub block-returns-in-Break-inside : need.block-returns-in-Break-inside
@@ -333,8 +355,8 @@ block-returns-in-Break-inside t c =
     let p = err-from-errBy (c .from-residual .result) (c .from-residual .ensures .1) in
     record {
       tells = λ text.
-        via (block-step (c .args .room) (from text (c .args .tokens .now) (c .args .at))) (stopped _ (p .1) (p .2) (c .in-Break-inside .ensures tt .tells text));
-      beyond = unmade _ (p .1)
+          via (block-step (c .args .room) (from text (c .args .tokens .now) (c .args .at))) (stopped _ (p .1) (p .2) (c .in-Break-inside .ensures tt .tells text));
+      beyond = unmade _ (p .1);
     }
 
 pub block-returns-in-Break-body : need.block-returns-in-Break-body
@@ -342,9 +364,9 @@ block-returns-in-Break-body t c =
     let p = err-from-errBy (c .from-residual-in-Break-body .result) (c .from-residual-in-Break-body .ensures .1) in
     record {
       tells = λ text.
-        let h0 = told (c .in-Continue-inside .ensures tt .tells text) in
-        via (block-step (c .args .room) (from text (c .args .tokens .now) (c .args .at))) (rw h0 (stopped _ (p .1) (p .2) (c .in-Break-body .ensures tt .tells text (suc (length (from text (c .args .tokens .now) (c .in-Continue-inside .inside)))) (let b = c .in-Continue-inside .ensures tt .beyond in let e = from-length text (c .args .tokens .now) (c .in-Continue-inside .inside) in omega arith))));
-      beyond = unmade _ (p .1)
+          let h0 = told (c .in-Continue-inside .ensures tt .tells text) in
+          via (block-step (c .args .room) (from text (c .args .tokens .now) (c .args .at))) (rw h0 (stopped _ (p .1) (p .2) (c .in-Break-body .ensures tt .tells text (suc (length (from text (c .args .tokens .now) (c .in-Continue-inside .inside)))) (let b = c .in-Continue-inside .ensures tt .beyond in let e = from-length text (c .args .tokens .now) (c .in-Continue-inside .inside) in omega arith))));
+      beyond = unmade _ (p .1);
     }
 
 pub block-returns-in-Break-after : need.block-returns-in-Break-after
@@ -352,28 +374,28 @@ block-returns-in-Break-after t c =
     let p = err-from-errBy (c .from-residual-in-Break-after .result) (c .from-residual-in-Break-after .ensures .1) in
     record {
       tells = λ text.
-        let h0 = told (c .in-Continue-inside .ensures tt .tells text) in
-        let h1 = told (c .in-Continue-body .ensures tt .tells text (suc (length (from text (c .args .tokens .now) (c .in-Continue-inside .inside)))) (let b = c .in-Continue-inside .ensures tt .beyond in let e = from-length text (c .args .tokens .now) (c .in-Continue-inside .inside) in omega arith)) in
-        via (block-step (c .args .room) (from text (c .args .tokens .now) (c .args .at))) (rw (h0, h1) (stopped _ (p .1) (p .2) (c .in-Break-after .ensures tt .tells text)));
-      beyond = unmade _ (p .1)
+          let h0 = told (c .in-Continue-inside .ensures tt .tells text) in
+          let h1 = told (c .in-Continue-body .ensures tt .tells text (suc (length (from text (c .args .tokens .now) (c .in-Continue-inside .inside)))) (let b = c .in-Continue-inside .ensures tt .beyond in let e = from-length text (c .args .tokens .now) (c .in-Continue-inside .inside) in omega arith)) in
+          via (block-step (c .args .room) (from text (c .args .tokens .now) (c .args .at))) (rw (h0, h1) (stopped _ (p .1) (p .2) (c .in-Break-after .ensures tt .tells text)));
+      beyond = unmade _ (p .1);
     }
 
 pub block-returns : need.block-returns
 block-returns t c =
     record {
       tells = λ text.
-        let h0 = told (c .in-Continue-inside .ensures tt .tells text) in
-        let h1 = told (c .in-Continue-body .ensures tt .tells text (suc (length (from text (c .args .tokens .now) (c .in-Continue-inside .inside)))) (let b = c .in-Continue-inside .ensures tt .beyond in let e = from-length text (c .args .tokens .now) (c .in-Continue-inside .inside) in omega arith)) in
-        let h2 = told (c .in-Continue-after .ensures tt .tells text) in
-        via (block-step (c .args .room) (from text (c .args .tokens .now) (c .args .at))) (valued _ (rw (h0, h1, h2)));
-      beyond = let b0 = c .in-Continue-inside .ensures tt .beyond in let b1 = c .in-Continue-body .ensures tt .onward in let b2 = c .in-Continue-after .ensures tt .beyond in (omega arith, omega arith)
+          let h0 = told (c .in-Continue-inside .ensures tt .tells text) in
+          let h1 = told (c .in-Continue-body .ensures tt .tells text (suc (length (from text (c .args .tokens .now) (c .in-Continue-inside .inside)))) (let b = c .in-Continue-inside .ensures tt .beyond in let e = from-length text (c .args .tokens .now) (c .in-Continue-inside .inside) in omega arith)) in
+          let h2 = told (c .in-Continue-after .ensures tt .tells text) in
+          via (block-step (c .args .room) (from text (c .args .tokens .now) (c .args .at))) (valued _ (rw (h0, h1, h2)));
+      beyond = let b0 = c .in-Continue-inside .ensures tt .beyond in let b1 = c .in-Continue-body .ensures tt .onward in let b2 = c .in-Continue-after .ensures tt .beyond in (omega arith, omega arith);
     }
 
 pub statements-returns-then-sees : need.statements-returns-then-sees
 statements-returns-then-sees t c =
     record {
       tells = λ text n l. valued _ (statements-none text (c .args .tokens .now) (c .args .at) (c .args .room) n (let r = c .pre in omega arith) (sym (c .sees .ensures) ∙ c .if-sees .taken));
-      onward = let r = c .pre in (omega arith, r)
+      onward = let r = c .pre in (omega arith, r);
     }
 
 pub statements-returns-in-Break-first : need.statements-returns-in-Break-first
@@ -381,8 +403,8 @@ statements-returns-in-Break-first t c =
     let p = err-from-errBy (c .from-residual .result) (c .from-residual .ensures .1) in
     record {
       tells = λ text n l.
-        via (statements-more text (c .args .tokens .now) (c .args .at) (c .args .room) n (let r = c .pre in omega arith) (sym (c .sees .ensures) ∙ c .if-sees .left)) (stopped _ (p .1) (p .2) (c .in-Break-first .ensures tt .tells text));
-      onward = unmade _ (p .1)
+          via (statements-more text (c .args .tokens .now) (c .args .at) (c .args .room) n (let r = c .pre in omega arith) (sym (c .sees .ensures) ∙ c .if-sees .left)) (stopped _ (p .1) (p .2) (c .in-Break-first .ensures tt .tells text));
+      onward = unmade _ (p .1);
     }
 
 pub statements-returns-in-Break-others : need.statements-returns-in-Break-others
@@ -390,9 +412,9 @@ statements-returns-in-Break-others t c =
     let p = err-from-errBy (c .from-residual-in-Break-others .result) (c .from-residual-in-Break-others .ensures .1) in
     record {
       tells = λ text n l.
-        let h0 = told (c .in-Continue-first .ensures tt .tells text) in
-        via (statements-more text (c .args .tokens .now) (c .args .at) (c .args .room) n (let r = c .pre in omega arith) (sym (c .sees .ensures) ∙ c .if-sees .left)) (rw h0 (stopped _ (p .1) (p .2) (c .in-Break-others .ensures tt .tells text (n - 1) (let b = c .in-Continue-first .ensures tt .beyond in omega arith))));
-      onward = unmade _ (p .1)
+          let h0 = told (c .in-Continue-first .ensures tt .tells text) in
+          via (statements-more text (c .args .tokens .now) (c .args .at) (c .args .room) n (let r = c .pre in omega arith) (sym (c .sees .ensures) ∙ c .if-sees .left)) (rw h0 (stopped _ (p .1) (p .2) (c .in-Break-others .ensures tt .tells text (n - 1) (let b = c .in-Continue-first .ensures tt .beyond in omega arith))));
+      onward = unmade _ (p .1);
     }
 
 pub statements-returns-in-Break-all : need.statements-returns-in-Break-all
@@ -404,11 +426,11 @@ pub statements-returns : need.statements-returns
 statements-returns t c =
     record {
       tells = λ text n l.
-        let h0 = told (c .in-Continue-first .ensures tt .tells text) in
-        let h1 = told (c .in-Continue-others .ensures tt .tells text (n - 1) (let b = c .in-Continue-first .ensures tt .beyond in omega arith)) in
-        let m = made-is (c .in-Continue-all .ensures tt text) in
-        via (statements-more text (c .args .tokens .now) (c .args .at) (c .args .room) n (let r = c .pre in omega arith) (sym (c .sees .ensures) ∙ c .if-sees .left)) (valued _ (rw (h0, h1) (ap (λ (x : Block). Ok (x, from text (c .args .tokens .now) (c .in-Continue-others .after))) m)));
-      onward = let b0 = c .in-Continue-first .ensures tt .beyond in let b1 = c .in-Continue-others .ensures tt .onward in (omega arith, omega arith)
+          let h0 = told (c .in-Continue-first .ensures tt .tells text) in
+          let h1 = told (c .in-Continue-others .ensures tt .tells text (n - 1) (let b = c .in-Continue-first .ensures tt .beyond in omega arith)) in
+          let m = made-is (c .in-Continue-all .ensures tt text) in
+          via (statements-more text (c .args .tokens .now) (c .args .at) (c .args .room) n (let r = c .pre in omega arith) (sym (c .sees .ensures) ∙ c .if-sees .left)) (valued _ (rw (h0, h1) (ap (λ (x : Block). Ok (x, from text (c .args .tokens .now) (c .in-Continue-others .after))) m)));
+      onward = let b0 = c .in-Continue-first .ensures tt .beyond in let b1 = c .in-Continue-others .ensures tt .onward in (omega arith, omega arith);
     }
 
 pub branches-returns-then-left-eq0 : need.branches-returns-then-left-eq0
@@ -420,8 +442,8 @@ branches-returns-in-Break-first t c =
     let p = err-from-errBy (c .from-residual .result) (c .from-residual .ensures .1) in
     record {
       tells = λ text.
-        via (branches-more text (c .args .tokens .now) (c .args .at) (c .args .room) (c .args .left) (c .if-left-eq0 .left) (sym (c .sees .ensures) ∙ c .if-sees .taken)) (stopped _ (p .1) (p .2) (c .in-Break-first .ensures tt .tells text));
-      onward = unmade _ (p .1)
+          via (branches-more text (c .args .tokens .now) (c .args .at) (c .args .room) (c .args .left) (c .if-left-eq0 .left) (sym (c .sees .ensures) ∙ c .if-sees .taken)) (stopped _ (p .1) (p .2) (c .in-Break-first .ensures tt .tells text));
+      onward = unmade _ (p .1);
     }
 
 pub branches-returns-in-Break-others : need.branches-returns-in-Break-others
@@ -429,9 +451,9 @@ branches-returns-in-Break-others t c =
     let p = err-from-errBy (c .from-residual-in-Break-others .result) (c .from-residual-in-Break-others .ensures .1) in
     record {
       tells = λ text.
-        let h0 = told (c .in-Continue-first .ensures tt .tells text) in
-        via (branches-more text (c .args .tokens .now) (c .args .at) (c .args .room) (c .args .left) (c .if-left-eq0 .left) (sym (c .sees .ensures) ∙ c .if-sees .taken)) (rw h0 (stopped _ (p .1) (p .2) (c .in-Break-others .ensures tt .tells text)));
-      onward = unmade _ (p .1)
+          let h0 = told (c .in-Continue-first .ensures tt .tells text) in
+          via (branches-more text (c .args .tokens .now) (c .args .at) (c .args .room) (c .args .left) (c .if-left-eq0 .left) (sym (c .sees .ensures) ∙ c .if-sees .taken)) (rw h0 (stopped _ (p .1) (p .2) (c .in-Break-others .ensures tt .tells text)));
+      onward = unmade _ (p .1);
     }
 
 pub branches-returns-in-Break-all : need.branches-returns-in-Break-all
@@ -443,18 +465,18 @@ pub branches-returns-in-Continue-all : need.branches-returns-in-Continue-all
 branches-returns-in-Continue-all t c =
     record {
       tells = λ text.
-        let h0 = told (c .in-Continue-first .ensures tt .tells text) in
-        let h1 = told (c .in-Continue-others .ensures tt .tells text) in
-        let m = made-is (c .in-Continue-all .ensures tt text) in
-        via (branches-more text (c .args .tokens .now) (c .args .at) (c .args .room) (c .args .left) (c .if-left-eq0 .left) (sym (c .sees .ensures) ∙ c .if-sees .taken)) (valued _ (rw (h0, h1) (ap (λ (x : Blocks). Ok (x, from text (c .args .tokens .now) (c .in-Continue-others .after))) m)));
-      onward = let b0 = c .in-Continue-first .ensures tt .beyond in let b1 = c .in-Continue-others .ensures tt .onward in (omega arith, omega arith)
+          let h0 = told (c .in-Continue-first .ensures tt .tells text) in
+          let h1 = told (c .in-Continue-others .ensures tt .tells text) in
+          let m = made-is (c .in-Continue-all .ensures tt text) in
+          via (branches-more text (c .args .tokens .now) (c .args .at) (c .args .room) (c .args .left) (c .if-left-eq0 .left) (sym (c .sees .ensures) ∙ c .if-sees .taken)) (valued _ (rw (h0, h1) (ap (λ (x : Blocks). Ok (x, from text (c .args .tokens .now) (c .in-Continue-others .after))) m)));
+      onward = let b0 = c .in-Continue-first .ensures tt .beyond in let b1 = c .in-Continue-others .ensures tt .onward in (omega arith, omega arith);
     }
 
 pub branches-returns-else-sees : need.branches-returns-else-sees
 branches-returns-else-sees t c =
     record {
       tells = λ text. valued _ (branches-stop text (c .args .tokens .now) (c .args .at) (c .args .room) (c .args .left) (c .if-left-eq0 .left) (sym (c .sees .ensures) ∙ c .if-sees .left));
-      onward = (omega arith, c .pre)
+      onward = (omega arith, c .pre);
     }
 
 pub statement-returns-in-Name : need.statement-returns-in-Name
@@ -505,7 +527,7 @@ pub statement-returns-in-rest : need.statement-returns-in-rest
 statement-returns-in-rest t c =
     record {
       tells = λ text.
-        refuses (c .not-allowed .ensures)
-        (begins-none text (c .args .tokens .now) (c .args .at) (c .args .room) (c .token-word .result) (c .token-word .ensures) (c .in-rest .not-Name) (c .in-rest .not-OpenBrace) (c .in-rest .not-Var) (c .in-rest .not-Next) (c .in-rest .not-Know) (c .in-rest .not-Throw) (c .in-rest .not-If) (c .in-rest .not-While) (c .in-rest .not-Try) (c .in-rest .not-Take) (c .in-rest .not-Par));
-      beyond = tt
+          refuses (c .not-allowed .ensures)
+          (begins-none text (c .args .tokens .now) (c .args .at) (c .args .room) (c .token-word .result) (c .token-word .ensures) (c .in-rest .not-Name) (c .in-rest .not-OpenBrace) (c .in-rest .not-Var) (c .in-rest .not-Next) (c .in-rest .not-Know) (c .in-rest .not-Throw) (c .in-rest .not-If) (c .in-rest .not-While) (c .in-rest .not-Try) (c .in-rest .not-Take) (c .in-rest .not-Par));
+      beyond = tt;
     }

@@ -32,4 +32,3 @@ abbrev pub μ-take-statement : given.MeasureT-take-statement
 
 abbrev pub μ-par-statement : given.MeasureT-par-statement
 μ-par-statement l = 8 * (length (l .tokens .now) - l .at) + 4
-
