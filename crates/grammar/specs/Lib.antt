@@ -1,2 +1,7 @@
 pub mod Trees
 pub mod Views
+pub mod Parsers
+pub mod Parsing
+pub mod Language
+pub mod Reading
+pub mod Readers

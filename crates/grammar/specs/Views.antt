@@ -2,6 +2,8 @@
 use mathlib.Core.List.{List, [], _∷_}
 use Prim.Native.Nat.{ℕ}
 use Rattle.std.specs.Of.Vec.{vec-items}
+use Rattle.std.specs.declared.vec.Vec.{Vec}
+use Rattle.std.specs.declared.alloc.Global.{Global}
 use Rattle.reader.specs.Views.{part}
 use Rattle.grammar.specs.declared.tree.Name as code-name
 use Rattle.grammar.specs.declared.tree.Operator as code-operator
@@ -67,6 +69,10 @@ abbrev pub names : List ℕ → List code-name.Name → List Name
 names text [] = []
 names text (n ∷ ns) = name text n ∷ names text ns
 
+-- the names in a vector
+abbrev pub view-names : List ℕ → Vec code-name.Name Global → List Name
+view-names text v = names text (vec-items v)
+
 abbrev pub operator : code-operator.Operator → Op
 operator operators.Same = Same
 operator operators.Less = Less
@@ -116,12 +122,18 @@ abbrev pub params : List ℕ → List code-param.Param → List Param
 params text [] = []
 params text (p ∷ ps) = param text p ∷ params text ps
 
+abbrev pub view-params : List ℕ → Vec code-param.Param Global → List Param
+view-params text v = params text (vec-items v)
+
 abbrev pub proc : List ℕ → code-proc.Proc → Proc
 proc text p = record { name = name text (p .name); params = params text (vec-items (p .params)); body = block text (p .body) }
 
 abbrev pub procs : List ℕ → List code-proc.Proc → List Proc
 procs text [] = []
 procs text (p ∷ ps) = proc text p ∷ procs text ps
+
+abbrev pub view-procs : List ℕ → Vec code-proc.Proc Global → List Proc
+view-procs text v = procs text (vec-items v)
 
 abbrev pub tree : List ℕ → code-tree.Tree → Tree
 tree text t = record { procs = procs text (vec-items (t .procs)); main = block text (t .main) }

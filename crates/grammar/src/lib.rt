@@ -1,3 +1,9 @@
 // The second stage of clearing: tokens become a tree.
 
+mod expressions;
+mod look;
+pub mod programs;
+mod simples;
+mod statements;
+pub mod theorems;
 pub mod tree;

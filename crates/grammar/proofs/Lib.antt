@@ -1,0 +1,13 @@
+pub mod Results
+pub mod Levels
+pub mod ExpressionGrammar
+pub mod ProgramGrammar
+pub mod Locality
+pub mod Refusals
+pub mod Tags
+pub mod Telling
+pub mod Operators
+pub mod ExpressionSteps
+pub mod SimpleSteps
+pub mod StatementSteps
+pub mod ProgramSteps
