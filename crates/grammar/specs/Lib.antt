@@ -1,2 +1,5 @@
 pub mod Trees
 pub mod Views
+pub mod Parsers
+pub mod Parsing
+pub mod Language
