@@ -1,0 +1,5 @@
+pub mod Unfolded
+pub mod Scopes
+pub mod Variables
+pub mod Unfolding
+pub mod Sharing

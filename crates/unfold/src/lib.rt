@@ -1,0 +1,1 @@
+// The fourth stage of clearing: the text is unfolded.
