@@ -16,12 +16,13 @@ use Rattle.std.specs.declared.result.Result.the-variants.{Ok, Err}
 use Rattle.reader.specs.declared.fault.Fault.{Fault}
 use Rattle.reader.specs.Tokens.{same, among}
 use Rattle.grammar.specs.Trees.{Name, Op, Exp, Use, Number, Negated, Both, Simple, Var, Set, Call, Next, Know, Throw, Head, Plain, If, While, Try, Take, Stm, One, Two, Par, Block, Nil, Seq, Blocks, Last, Also, Param, Proc, Tree}
-use Rattle.names.specs.Naming.{Reading, value-of, Scope, find-proc, visible, all-visible, undeclared, names-exp, names-call, names-simple, names-head, declared, names-stm, names-block, names-blocks, names-params, names-procs, named}
+use Rattle.numbers.specs.Literals.{digits-value}
+use Rattle.names.specs.Naming.{Reading, is-port, Scope, find-proc, visible, all-visible, undeclared, names-exp, names-call, names-simple, names-head, declared, names-stm, names-block, names-blocks, names-params, names-proc, names-procs, named}
 use Rattle.std.specs.Options.{isSome}
 use Rattle.unfold.specs.Unfolded.{New, Got, Part, plain, calls, tests, loops, tries, takes, Node, one, throws, two, par, Nodes, nil, seq, Branches, last, also}
 use Rattle.unfold.specs.Scopes.{Binding, Env, lookup, found, stands, joined, resolved}
 use Rattle.unfold.specs.Variables.{Uses, Params-of, uses-exp, uses-args, uses-simple, uses-head, uses-stm, uses-block, uses-blocks, written, gets, got-new, got-env, all-get, all-new}
-use Rattle.unfold.specs.Unfolding.{branch-count, Passed, by-reference, by-value, passes, Count, brings, Callee, Callees, params-of, head-part, unfold-simple, env-after, unfold-stm, unfold-block, unfold-blocks, callees, unfolded}
+use Rattle.unfold.specs.Unfolding.{port-of, branch-count, Passed, by-reference, by-value, passes, Count, brings, Callee, Callees, params-of, head-part, unfold-simple, env-after, unfold-stm, unfold-block, unfold-blocks, callees, unfolded}
 use Rattle.program.specs.Clearing.{Only-limits}
 use Rattle.program.proofs.Distinct.{same-eq, same-refl}
 use Rattle.reader.specs.declared.fault.Cause.{Cause}
@@ -94,8 +95,8 @@ cov-head v x w us sc h i = h (x .text) (or-l (same (x .text) (x .text)) (occurs 
 cov-tail : (v : Env) (x : Name) (w : Bool) (us : Uses) (sc : Scope) → Cov v ((x, w) ∷ us) sc → Cov v us sc
 cov-tail v x w us sc h n i = h n (or-r (same n (x .text)) (occurs n us) i)
 
-had : (sc : Scope) (x : Name) (u : Unit {0}) → visible sc x ≡ Ok u → T (among (x .text) sc)
-had sc x u e = must-be (among (x .text) sc) NotVisible (x .at) u e
+in-scope : (sc : Scope) (x : Name) (u : Unit {0}) → visible sc x ≡ Ok u → T (among (x .text) sc)
+in-scope sc x u e = must-be (among (x .text) sc) NotVisible (x .at) u e
 
 stands-for : (v : Env) (x : Name) → Stood v (x .text) → (b : Binding) × (stands v x ≡ Ok b)
 stands-for v x h = (h .0, ap (λ o. found NotVisible (x .at) o) (h .1))
@@ -116,7 +117,7 @@ some-is k at (Some w) h = (w, refl)
 
 exp-ok : (l : Reading) (v : Env) (sc : Scope) (e : Exp) (u : Unit {0}) → names-exp l sc e ≡ Ok u → Cov v (uses-exp e) sc → (a : Expr) × (resolved l v e ≡ Ok a)
 exp-ok l v sc (Use n) u h c =
-    let s = stands-for v n (cov-head v n false [] sc c (had sc n u h)) in
+    let s = stands-for v n (cov-head v n false [] sc c (in-scope sc n u h)) in
     (rules.own (s .0 .own), ap (λ z. z >>= (λ b. Ok (rules.own (b .own)))) (s .1))
 exp-ok l v sc (Number n) u h c =
     let s = some-is OutOfRange (n .at) (l (n .text)) (must-be (isSome (l (n .text))) OutOfRange (n .at) u h) in
@@ -129,15 +130,23 @@ exp-ok l v sc (Both o e f) u h c =
     let t = exp-ok l v sc f u (b .2) (cov-r v (uses-exp e) (uses-exp f) sc c) in
     (joined o (s .0) (t .0), ap (λ z. z >>= (λ a. resolved l v f >>= (λ b. Ok (joined o a b)))) (s .1) ∙ ap (λ z. z >>= (λ b. Ok (joined o (s .0) b))) (t .1))
 
+port-there : (ds : List ℕ) → T (is-port ds) → T (isSome (port-of ds))
+port-there ds h = go (digits-value ds) h
+  where
+    go : (o : Option ℕ) → T (elim o [ Some p ↦ leb p 7 | None ↦ false ]) → T (isSome (elim o [ Some p ↦ cond (leb p 7) (Some p) None | None ↦ None ]))
+    go None k = k
+    go (Some p) k = subst (λ (b : Bool). T (isSome (cond b (Some p) None))) (sym (T-true (leb p 7) k)) tt
+
 head-ok : (l : Reading) (v : Env) (sc : Scope) (h : Head) (u : Unit {0}) → names-head l sc h ≡ Ok u → Cov v (uses-head h) sc → (p : Part) × (head-part l v h ≡ Ok p)
 head-ok l v sc Plain u e c = (plain, refl)
 head-ok l v sc (If f) u e c = let s = exp-ok l v sc f u e c in (tests (s .0), ap (λ z. z >>= (λ a. Ok (tests a))) (s .1))
 head-ok l v sc (While f) u e c = let s = exp-ok l v sc f u e c in (loops (s .0), ap (λ z. z >>= (λ a. Ok (loops a))) (s .1))
 head-ok l v sc (Try n) u e c = (tries (n .text), refl)
 head-ok l v sc (Take i n) u e c =
-    let b = bound (must (leb (value-of 0 (i .text)) 7) OutOfRange (i .at)) (λ u. visible sc n) u e in
-    let s = stands-for v n (cov-head v n true [] sc c (had sc n u (b .2))) in
-    (takes (value-of 0 (i .text)) (s .0 .own), ap (λ z. z >>= (λ b. Ok (takes (value-of 0 (i .text)) (b .own)))) (s .1))
+    let b = bound (must (is-port (i .text)) OutOfRange (i .at)) (λ u. visible sc n) u e in
+    let p = some-is OutOfRange (i .at) (port-of (i .text)) (port-there (i .text) (must-be (is-port (i .text)) OutOfRange (i .at) (b .0) (b .1))) in
+    let s = stands-for v n (cov-head v n true [] sc c (in-scope sc n u (b .2))) in
+    (takes (p .0) (s .0 .own), ap (λ z. z >>= (λ q. stands v n >>= (λ b. Ok (takes q (b .own))))) (p .1) ∙ ap (λ z. z >>= (λ b. Ok (takes (p .0) (b .own)))) (s .1))
 
 -- ---- calls
 
@@ -151,7 +160,7 @@ pass-ok v sc [] as′ c u e l k = (record { env = []; copies = []; news = []; re
 pass-ok v sc (p ∷ ps) [] c u e l k = absurd (omega arith)
 pass-ok v sc (p ∷ ps) (a ∷ as′) c u e l k =
     let b = bound (visible sc a) (λ w. all-visible sc as′) u e in
-    let s = stands-for v a (cov-head v a (p .reference) (uses-args ps as′) sc k (had sc a (b .0) (b .1))) in
+    let s = stands-for v a (cov-head v a (p .reference) (uses-args ps as′) sc k (in-scope sc a (b .0) (b .1))) in
     go (s .0) (s .1) (p .reference) (λ c. pass-ok v sc ps as′ c u (b .2) (omega arith) (cov-tail v a (p .reference) (uses-args ps as′) sc k))
   where
     R : ℕ → Type 0
@@ -191,17 +200,17 @@ simple-fine : (l : Reading) (ps : List Proc) (f : Callees) (v : Env) (sc : Scope
 simple-fine l ps f v sc n at (Var x) u cf e c = next-fine (brings n 0 1 at) (λ m. Ok (one at (record { home = n .cells; name = x } ∷ []) (rules.var (n .cells)), m)) (brings-fine n 0 1 at) (λ m i. fine (one at (record { home = n .cells; name = x } ∷ []) (rules.var (n .cells)), m))
 simple-fine l ps f v sc n at (Set x y) u cf e c =
     let b = bound (visible sc x) (λ u. names-exp l sc y) u e in
-    let s = stands-for v x (cov-head v x true (uses-exp y) sc c (had sc x (b .0) (b .1))) in
+    let s = stands-for v x (cov-head v x true (uses-exp y) sc c (in-scope sc x (b .0) (b .1))) in
     let t = exp-ok l v sc y u (b .2) (cov-tail v x true (uses-exp y) sc c) in
     next-fine (brings n 0 0 at) (λ m. stands v x >>= (λ b. resolved l v y >>= (λ a. Ok (one at [] (rules.set (b .own) a), m)))) (brings-fine n 0 0 at) (λ m i.
     on (stands v x) (λ b. resolved l v y >>= (λ a. Ok (one at [] (rules.set (b .own) a), m))) (s .0) (s .1)
     (on (resolved l v y) (λ a. Ok (one at [] (rules.set (s .0 .own) a), m)) (t .0) (t .1) (fine (one at [] (rules.set (s .0 .own) (t .0)), m))))
 simple-fine l ps f v sc n at (Next x) u cf e c =
-    let s = stands-for v x (cov-head v x false [] sc c (had sc x u e)) in
+    let s = stands-for v x (cov-head v x false [] sc c (in-scope sc x u e)) in
     next-fine (brings n 0 0 at) (λ m. stands v x >>= (λ b. Ok (one at [] (rules.next (b .own) (b .home)), m))) (brings-fine n 0 0 at) (λ m i.
     on (stands v x) (λ b. Ok (one at [] (rules.next (b .own) (b .home)), m)) (s .0) (s .1) (fine (one at [] (rules.next (s .0 .own) (s .0 .home)), m)))
 simple-fine l ps f v sc n at (Know x) u cf e c =
-    let s = stands-for v x (cov-head v x false [] sc c (had sc x u e)) in
+    let s = stands-for v x (cov-head v x false [] sc c (in-scope sc x u e)) in
     next-fine (brings n 0 0 at) (λ m. stands v x >>= (λ b. Ok (one at [] rules.know, m))) (brings-fine n 0 0 at) (λ m i.
     on (stands v x) (λ b. Ok (one at [] rules.know, m)) (s .0) (s .1) (fine (one at [] rules.know, m)))
 simple-fine l ps f v sc n at (Throw x) u cf e c = next-fine (brings n 0 0 at) (λ m. Ok (throws at (x .text), m)) (brings-fine n 0 0 at) (λ m i. fine (throws at (x .text), m))
@@ -331,17 +340,17 @@ module _ (l : Reading) (ps : List Proc) (f : Callees) (cf : CalleesFine ps f) wh
 
 -- ---- procedures
 
-abbrev Seen : Reading → List Proc → Type 0
-Seen l [] = Unit {0}
-Seen l (p ∷ ps) = ((v : Scope) × (names-params [] (p .params) ≡ Ok v) × (names-block l ps v (p .body) ≡ Ok tt)) × Seen l ps
+abbrev Checked : Reading → List Proc → Type 0
+Checked l [] = Unit {0}
+Checked l (p ∷ ps) = ((v : Scope) × (names-params [] (p .params) ≡ Ok v) × (names-block l ps v (p .body) ≡ Ok tt)) × Checked l ps
 
-procs-seen : (l : Reading) (ps old new : List Proc) → names-procs l old ps ≡ Ok new → Seen l old → Seen l new
-procs-seen l [] old new e h = let i : old ≡ new = cc in subst (Seen l) i h
-procs-seen l (p ∷ ps) old new e h =
-    let a = bound (must (not (isSome (find-proc old (p .name .text)))) Redeclared (p .name .at)) (λ u. names-params [] (p .params) >>= (λ v. names-block l old v (p .body) >>= (λ w. names-procs l (p ∷ old) ps))) new e in
-    let b = bound (names-params [] (p .params)) (λ v. names-block l old v (p .body) >>= (λ w. names-procs l (p ∷ old) ps)) new (a .2) in
-    let c = bound (names-block l old (b .0) (p .body)) (λ w. names-procs l (p ∷ old) ps) new (b .2) in
-    procs-seen l ps (p ∷ old) new (c .2) ((b .0, b .1, c .1), h)
+procs-checked : (l : Reading) (ps old new : List Proc) → names-procs l old ps ≡ Ok new → Checked l old → Checked l new
+procs-checked l [] old new e h = let i : old ≡ new = cc in subst (Checked l) i h
+procs-checked l (p ∷ ps) old new e h =
+    let d = bound (names-proc l old p) (λ u. names-procs l (p ∷ old) ps) new e in
+    let a = bound (must (not (isSome (find-proc old (p .name .text)))) Redeclared (p .name .at)) (λ u. names-params [] (p .params) >>= (λ v. names-block l old v (p .body))) (d .0) (d .1) in
+    let b = bound (names-params [] (p .params)) (λ v. names-block l old v (p .body)) (d .0) (a .2) in
+    procs-checked l ps (p ∷ old) new (d .2) ((b .0, b .1, b .2), h)
 
 -- the scope of a procedure's block is its parameters
 params-scope : (ps : List Param) (sc v : Scope) → names-params sc ps ≡ Ok v → (n : List ℕ) → T (among n v) → T (among n (names-of ps)) ⊎ T (among n sc)
@@ -354,7 +363,7 @@ params-scope (p ∷ ps) sc v e n h =
           elim (T-or (same n (p .name .text)) (among n sc) i) [ inl j ↦ inl (or-l (same n (p .name .text)) (among n (names-of ps)) j) | inr j ↦ inr j ]
     ]
 
-callees-fine : (l : Reading) (ps : List Proc) → Seen l ps → CalleesFine ps (callees l ps)
+callees-fine : (l : Reading) (ps : List Proc) → Checked l ps → CalleesFine ps (callees l ps)
 callees-fine l [] h x p e = absurd (let z : _≡_ {A = ℕ} 0 1 = cc in omega arith)
 callees-fine l (q ∷ ps) h x p e = go (same x (q .name .text)) (callees-fine l ps (h .1)) e
   where
@@ -384,7 +393,7 @@ only-limits l t ps r e =
     let a = bound (names-procs l [] (t .procs)) (λ ps. names-block l ps [] (t .main) >>= (λ u. Ok ps)) ps e in
     let b = bound (names-block l (a .0) [] (t .main)) (λ u. Ok (a .0)) ps (a .2) in
     let j : a .0 ≡ ps = cc in
-    let s : Seen l ps = subst (Seen l) j (procs-seen l (t .procs) [] (a .0) (a .1) tt) in
+    let s : Checked l ps = subst (Checked l) j (procs-checked l (t .procs) [] (a .0) (a .1) tt) in
     let m : names-block l ps [] (t .main) ≡ Ok (b .0) = subst (λ (z : List Proc). names-block l z [] (t .main) ≡ Ok (b .0)) j (b .1) in
     let start : Count = record { statements = 0; places = 1; cells = 0 } in
     next-fine (unfold-block l (callees l ps) (t .main) [] start) (λ r. Ok (r .0))

@@ -17,11 +17,11 @@ use Rattle.reader.specs.Faults.{Answer, _>>=_, must, refuse}
 use Rattle.std.specs.declared.result.Result.the-variants.{Ok, Err}
 use Rattle.reader.specs.Tokens.{same, among}
 use Rattle.grammar.specs.Trees.{Name, Op, Same, Less, Plus, Minus, Times, Exp, Use, Number, Negated, Both, Simple, Var, Set, Call, Next, Know, Throw, Head, Plain, If, While, Try, Take, Stm, One, Two, Par, Block, Nil, Seq, Blocks, Last, Also, Param, Proc}
-use Rattle.names.specs.Naming.{Reading, value-of}
+use Rattle.names.specs.Naming.{Reading}
 use Rattle.unfold.specs.Unfolded.{New, Got, Part, plain, calls, tests, loops, tries, takes, Node, one, throws, two, par, Nodes, nil, seq, Branches, last, also}
 use Rattle.unfold.specs.Scopes.{Binding, Env, lookup, found, stands, joined, resolved}
 use Rattle.unfold.specs.Variables.{Uses, Params-of, uses-block, written, gets, got-new, got-env, all-get, all-new}
-use Rattle.unfold.specs.Unfolding.{branch-count, Passed, by-reference, by-value, passes, Count, brings, Callee, Callees, params-of, head-part, unfold-simple, env-after, unfold-stm, unfold-block, unfold-blocks, callees}
+use Rattle.unfold.specs.Unfolding.{port-of, branch-count, Passed, by-reference, by-value, passes, Count, brings, Callee, Callees, params-of, head-part, unfold-simple, env-after, unfold-stm, unfold-block, unfold-blocks, callees}
 use Rattle.unfold.specs.Sharing.{owns, homes}
 use Rattle.program.specs.Layout.{Cell, cells-of, node-cells, cells, branch-cells}
 use Rattle.program.specs.Sizes.{node-places, how-many}
@@ -111,8 +111,9 @@ module _ (C : ℕ → Cell) where
       reads l p g v f (b .0) k (b .1) x (subst (λ (v : Part). PartTouches v x) (sym (ok-eq (loops (b .0)) t (b .2))) r)
   part-reads l p g v (Try n) t k e x r = absurd (subst (λ (v : Part). PartTouches v x) (sym (ok-eq (tries (n .text)) t e)) r)
   part-reads l p g v (Take i n) t k e x r =
-      let b = bound (stands v n) (λ b. Ok (takes (value-of 0 (i .text)) (b .own))) t e in
-      let j : x ≡ b .0 .own = subst (λ (v : Part). PartTouches v x) (sym (ok-eq (takes (value-of 0 (i .text)) (b .0 .own)) t (b .2))) r in
+      let a = bound (found OutOfRange (i .at) (port-of (i .text))) (λ p. stands v n >>= (λ b. Ok (takes p (b .own)))) t e in
+      let b = bound (stands v n) (λ b. Ok (takes (a .0) (b .own))) t (a .2) in
+      let j : x ≡ b .0 .own = subst (λ (v : Part). PartTouches v x) (sym (ok-eq (takes (a .0) (b .0 .own)) t (b .2))) r in
       subst (λ (v : ℕ). CellAt C p g v) (sym j) (cell-of p g (b .0) (stood p g v n (b .0) k (b .1)))
 
   -- ---- what a branch gets

@@ -8,7 +8,8 @@ use Rattle.std.specs.declared.option.Option.the-variants.{Some}
 use Rattle.std.specs.declared.result.Result.the-variants.{Ok}
 use Rattle.reader.specs.declared.fault.Cause.the-variants.{OverLimit, WrittenTwice, ReferencedTwice, PortTwice, Uncaught}
 use Rattle.reader.specs.Faults.{Answer, refuse, _>>=_}
-use Rattle.names.specs.Naming.{Reading, value-of}
+use Rattle.numbers.specs.Literals.{value-of}
+use Rattle.names.specs.Naming.{Reading}
 use Rattle.program.specs.Clearing.{cleared}
 
 -- a reading that every literal has

@@ -1,13 +1,13 @@
 -- The fourth stage of clearing: the text is unfolded, within the limits.
 use mathlib.Core.List.{List, [], _∷_}
-use mathlib.Core.Bool.{Bool, true, false, _&&_}
+use mathlib.Core.Bool.{Bool, true, false, cond, _&&_}
 use Prim.Native.Nat.{ℕ, zero, suc, _+_}
 use lib.Dec.{leb}
 use lib.ListN.{length}
 use Rattle.std.specs.declared.option.Option.{Option}
 use Rattle.std.specs.declared.option.Option.the-variants.{Some, None}
 use Rattle.std.specs.declared.result.Result.the-variants.{Ok}
-use Rattle.reader.specs.declared.fault.Cause.the-variants.{NotVisible, OverLimit}
+use Rattle.reader.specs.declared.fault.Cause.the-variants.{NotVisible, OutOfRange, OverLimit}
 use Rattle.reader.specs.Faults.{Answer, must, _>>=_}
 use Rattle.reader.specs.Tokens.{same}
 use Rattle.grammar.specs.Trees.{
@@ -38,7 +38,8 @@ use Rattle.grammar.specs.Trees.{
   Param,
   Proc,
 }
-use Rattle.names.specs.Naming.{Reading, value-of}
+use Rattle.numbers.specs.Literals.{digits-value}
+use Rattle.names.specs.Naming.{Reading}
 use Rattle.rules.specs.Programs as rules
 use Rattle.unfold.specs.Unfolded.{New, Got, Part, plain, calls, tests, loops, tries, takes, Node, one, throws, two, par, Nodes, nil, seq, Branches, last, also}
 use Rattle.unfold.specs.Scopes.{Binding, Env, found, stands, resolved}
@@ -118,12 +119,17 @@ abbrev pub params-of : Option Callee → List Param
 params-of None = []
 params-of (Some c) = c .params
 
+-- ports are numbered 0 to 7
+abbrev pub port-of : List ℕ → Option ℕ
+port-of ds = elim (digits-value ds) [ Some p ↦ cond (leb p 7) (Some p) None | None ↦ None ]
+
 abbrev pub head-part : Reading → Env → Head → Answer Part
 head-part l v Plain = Ok plain
 head-part l v (If e) = resolved l v e >>= (λ a. Ok (tests a))
 head-part l v (While e) = resolved l v e >>= (λ a. Ok (loops a))
 head-part l v (Try n) = Ok (tries (n .text))
-head-part l v (Take i n) = stands v n >>= (λ b. Ok (takes (value-of 0 (i .text)) (b .own)))
+head-part l v (Take i n) =
+    found OutOfRange (i .at) (port-of (i .text)) >>= (λ p. stands v n >>= (λ b. Ok (takes p (b .own))))
 
 abbrev pub branch-count : Blocks → ℕ
 branch-count Last = 0
