@@ -3,3 +3,4 @@ pub mod Scopes
 pub mod Variables
 pub mod Unfolding
 pub mod Sharing
+pub mod Views
