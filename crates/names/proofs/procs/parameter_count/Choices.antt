@@ -1,0 +1,14 @@
+use mathlib.Core.Path.{_≡_}
+use Prim.Native.Nat.{_≤_}
+use lib.ListN.{length, take}
+use Rattle.grammar.specs.Views.{name}
+use Rattle.names.specs.Naming.{find-proc}
+use Rattle.names.specs.Scopes.{ended}
+use Rattle.names.proofs.procs.parameter_count.Given as given
+
+abbrev pub Inv-loop-i : given.InvT-loop-i
+Inv-loop-i l =
+    (l .i ≤ length (l .procs)) × (find-proc (ended (l .text) (l .procs)) (name (l .text) (l .n) .text) ≡ find-proc (ended (l .text) (take (l .i) (l .procs))) (name (l .text) (l .n) .text))
+
+abbrev pub μ-loop-i : given.MeasureT-loop-i
+μ-loop-i l = l .i

@@ -1,0 +1,11 @@
+// The third stage of clearing: names, arguments, literals and ports.
+
+mod exprs;
+mod literals;
+mod part;
+mod procs;
+mod stmts;
+mod vars;
+mod whole;
+
+pub use crate::whole::check_names;
