@@ -1,0 +1,10 @@
+pub mod Results
+pub mod Facts
+pub mod Agree
+pub mod Proper
+pub mod Walk
+pub mod Distinct
+pub mod Unfolds
+pub mod Accept
+pub mod Limits
+pub mod Counts

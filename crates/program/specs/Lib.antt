@@ -1,0 +1,4 @@
+pub mod Sizes
+pub mod Layout
+pub mod Clearing
+pub mod Cases
