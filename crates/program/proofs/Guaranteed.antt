@@ -34,7 +34,8 @@ use Rattle.program.proofs.Agree.{placing-size}
 use Rattle.program.proofs.Unfolds.{block-ok, callees-ok}
 use Rattle.program.proofs.Accept.{C-of}
 use Rattle.program.proofs.Counts.{block-count, callees-count}
-use Rattle.program.proofs.Named.{each-join, block-in, callees-in}
+use Rattle.program.proofs.Named.{each-join}
+use Rattle.program.proofs.NamedBlocks.{block-in, callees-in}
 use Rattle.program.proofs.Bounded.{each-or, each-at, PointIn, points-in, ends-in, CellIn, cells-in}
 
 -- ---- an unfolded text

@@ -9,5 +9,6 @@ pub mod Accept
 pub mod Limits
 pub mod Counts
 pub mod Named
+pub mod NamedBlocks
 pub mod Bounded
 pub mod Guaranteed
