@@ -31,7 +31,7 @@ use Rattle.reader.specs.declared.fault.Cause.the-variants.{NotVisible, OverLimi
 use Rattle.rules.specs.Programs as rules
 use Rattle.program.proofs.Results.{bound, must-be, ok-eq, found-is}
 
-abbrev Fits : Count → Type 0
+abbrev pub Fits : Count → Type 0
 Fits n = (n .statements ≤ 1024) × (n .places ≤ 64) × (n .cells ≤ 128)
 
 brought : (n : Count) (p c at : ℕ) (m : Count) → brings n p c at ≡ Ok m → (m .statements ≡ suc (n .statements)) × (m .places ≡ n .places + p) × Fits m
@@ -45,10 +45,10 @@ brought n p c at m e =
     subst (λ (m : Count). (m .statements ≡ suc (n .statements)) × (m .places ≡ n .places + p) × Fits m) i
     (refl, refl, (leb→le (r .statements) 1024 (x .0), leb→le (r .places) 64 (y .0), leb→le (r .cells) 128 (y .1)))
 
-abbrev Counted : Count → ℕ → ℕ → Count → Type 0
+abbrev pub Counted : Count → ℕ → ℕ → Count → Type 0
 Counted n s p m = (n .statements + s ≡ m .statements) × (n .places + p ≡ m .places) × (Fits n → Fits m)
 
-abbrev CalleesCount : Callees → Type 0
+abbrev pub CalleesCount : Callees → Type 0
 CalleesCount f = (x : List ℕ) (c : Callee) → f x ≡ Some c → (v : Env) (n : Count) (r : Nodes × Count) → c .body v n ≡ Ok r → Counted n (size (r .0)) (how-many (r .0)) (r .1)
 
 abbrev NodeR : Count → Node × Count → Type 0
@@ -120,7 +120,7 @@ mutual
       let i = brought n (branch-count bs) (length (all-new gs)) at m (b0 .1) in
       subst (NodeR n) (ok-eq (par at (all-new gs) (b1 .0 .0), b1 .0 .1) r (b1 .2)) (omega arith, omega arith, λ h. x .2 (i .2))
 
-  block-count : (b : Block) (l : Reading) (f : Callees) (v : Env) (n : Count) → CalleesCount f → (r : Nodes × Count) → unfold-block l f b v n ≡ Ok r → Counted n (size (r .0)) (how-many (r .0)) (r .1)
+  pub block-count : (b : Block) (l : Reading) (f : Callees) (v : Env) (n : Count) → CalleesCount f → (r : Nodes × Count) → unfold-block l f b v n ≡ Ok r → Counted n (size (r .0)) (how-many (r .0)) (r .1)
   block-count Nil l f v n ck r e =
       subst (λ (r : Nodes × Count). Counted n (size (r .0)) (how-many (r .0)) (r .1)) (ok-eq (nil, n) r e) (omega arith, omega arith, λ h. h)
   block-count (Seq s b) l f v n ck r e =
@@ -146,7 +146,7 @@ mutual
       subst (λ (r : Branches × Count). (n .statements + branch-size (r .0) ≡ r .1 .statements) × (n .places + branch-places (r .0) ≡ r .1 .places + suc (branch-count bs)) × (Fits n → Fits (r .1)))
       (ok-eq (also x (b0 .0 .0) (b1 .0 .0), b1 .0 .1) r (b1 .2)) (omega arith, omega arith, λ h. z .2 (y .2 h))
 
-callees-count : (l : Reading) (ps : List Proc) → CalleesCount (callees l ps)
+pub callees-count : (l : Reading) (ps : List Proc) → CalleesCount (callees l ps)
 callees-count l [] x c e v n r i = absurd (let z : _≡_ {A = ℕ} 0 1 = cc in omega arith)
 callees-count l (p ∷ ps) x c e v n r i = go (same x (p .name .text)) (callees-count l ps) e
   where

@@ -8,3 +8,7 @@ pub mod Unfolds
 pub mod Accept
 pub mod Limits
 pub mod Counts
+pub mod Named
+pub mod NamedBlocks
+pub mod Bounded
+pub mod Guaranteed

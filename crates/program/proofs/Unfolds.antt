@@ -34,7 +34,7 @@ use Rattle.reader.specs.declared.fault.Cause.the-variants.{NotVisible, OutOfRan
 use Rattle.rules.specs.Programs as rules
 use Rattle.program.proofs.Results.{bound, ok-eq, found-is}
 
-brought : (n : Count) (p c at : ℕ) (m : Count) → brings n p c at ≡ Ok m → m .cells ≡ n .cells + c
+pub brought : (n : Count) (p c at : ℕ) (m : Count) → brings n p c at ≡ Ok m → m .cells ≡ n .cells + c
 brought n p c at m e =
     let s = suc (n .statements) in
     let w = n .places + p in
