@@ -11,5 +11,3 @@ mod whole;
 
 pub use crate::whole::check_names;
 
-#[cfg(test)]
-mod tests;

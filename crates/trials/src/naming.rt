@@ -1,4 +1,4 @@
-use crate::whole::check_names;
+use names::check_names;
 use grammar::tree::Block;
 use grammar::tree::Expr;
 use grammar::tree::Head;
