@@ -23,20 +23,20 @@ use Rattle.grammar.specs.Language.{sign, name-token, number-token, EqualSign, 
 use Rattle.grammar.proofs.Results.{bound}
 use Rattle.grammar.proofs.Levels.{ok-eq, no-ok, if-inv, if-true, if-false, then, sign-is, eaten, name-here, number-here, Sounds, Reads, Shrinks, Any, level-sound, grouped-shrinks, level-reads}
 
-abbrev Signed : (List ℕ → Op → Type 0) → Tokens → Op → Type 0
+abbrev pub Signed : (List ℕ → Op → Type 0) → Tokens → Op → Type 0
 Signed S ts o = (s : List ℕ) × S s o × (ts ≡ sign s (here ts .at) ∷ rest ts)
 
-read-equal : (ts : Tokens) (o : Op) → op-here equals ts ≡ some o → Signed EqualSign ts o
+pub read-equal : (ts : Tokens) (o : Op) → op-here equals ts ≡ some o → Signed EqualSign ts o
 read-equal ts o h =
     let i = cond-some (is (codes "==") ts) Same o h in
     (codes "==", subst (λ (v : Op). EqualSign (codes "==") v) (i .1) same-sign, sign-is (codes "==") ts (i .0))
 
-read-less : (ts : Tokens) (o : Op) → op-here lesses ts ≡ some o → Signed LessSign ts o
+pub read-less : (ts : Tokens) (o : Op) → op-here lesses ts ≡ some o → Signed LessSign ts o
 read-less ts o h =
     let i = cond-some (is (codes "<") ts) Less o h in
     (codes "<", subst (λ (v : Op). LessSign (codes "<") v) (i .1) less-sign, sign-is (codes "<") ts (i .0))
 
-read-sum : (ts : Tokens) (o : Op) → op-here sums ts ≡ some o → Signed SumSign ts o
+pub read-sum : (ts : Tokens) (o : Op) → op-here sums ts ≡ some o → Signed SumSign ts o
 read-sum ts o h =
     elim (cond-else (is (codes "+") ts) Plus o (cond (is (codes "-") ts) (some Minus) none) h) [
       | inl i ↦ (codes "+", subst (λ (v : Op). SumSign (codes "+") v) (i .1) plus-sign, sign-is (codes "+") ts (i .0))
@@ -45,7 +45,7 @@ read-sum ts o h =
           (codes "-", subst (λ (v : Op). SumSign (codes "-") v) (i .1) minus-sign, sign-is (codes "-") ts (i .0))
     ]
 
-read-product : (ts : Tokens) (o : Op) → op-here products ts ≡ some o → Signed ProductSign ts o
+pub read-product : (ts : Tokens) (o : Op) → op-here products ts ≡ some o → Signed ProductSign ts o
 read-product ts o h =
     let i = cond-some (is (codes "*") ts) Times o h in
     (codes "*", subst (λ (v : Op). ProductSign (codes "*") v) (i .1) times-sign, sign-is (codes "*") ts (i .0))

@@ -11,3 +11,7 @@ pub mod ExpressionSteps
 pub mod SimpleSteps
 pub mod StatementSteps
 pub mod ProgramSteps
+pub mod Fine
+pub mod Begun
+pub mod Completion
+pub mod Continued

@@ -20,7 +20,7 @@ use Rattle.grammar.specs.Parsing as G
 use Rattle.grammar.specs.Parsers.{Tokens, Parser, here, rest, is-name, is-number, is-finish, is, bad, eat, as-name, a-name, a-number}
 use Rattle.grammar.specs.Parsing.{an-expression, in-parens, more-names, arguments, of-name, more-blocks, statement, statements, block, parsed, more-params, parameters, procedures, finished}
 use Rattle.grammar.specs.Language as L
-use Rattle.grammar.specs.Language.{sign, name-token, number-token, Expression, Parens, parens, In-room, NameIs, name-is, MoreNames, no-more, comma, Arguments, no-argument, an-argument, UpTo, enough, another, Statement, s-var, s-set, s-call, s-next, s-know, s-throw, s-block, s-if, s-while, s-try, s-take, s-par, Statements, none-left, one-more, Braces, braces, Block-is, Param-is, p-value, p-reference, MoreParams, last-param, next-param, Parameters, no-param, Procs, no-proc, Ends, all-read, at-end, Program-is, program, Parsed-exactly}
+use Rattle.grammar.specs.Language.{sign, name-token, number-token, Expression, Parens, parens, In-room, NameIs, name-is, MoreNames, no-more, comma, Arguments, no-argument, an-argument, UpTo, enough, another, Statement, s-var, s-set, s-call, s-next, s-know, s-throw, s-block, s-if, s-while, s-try, s-take, s-par, Statements, none-left, one-more, Braces, braces, Block-is, Param-is, p-value, p-reference, MoreParams, last-param, next-param, Parameters, no-param, Procs-within, no-proc, Ends, all-read, at-end, Program-is, program, Parsed-exactly}
 use Rattle.grammar.proofs.Results.{bound}
 use Rattle.grammar.proofs.Levels.{ok-eq, no-ok, if-inv, if-true, if-false, then, sign-is, eaten, name-here, number-here, a-name-is, a-number-is, Sounds, Reads, Shrinks, Any}
 use Rattle.grammar.proofs.ExpressionGrammar.{closed-reads, parens-sound, parens-reads, parens-shrinks, expression-sound, expression-reads, expression-shrinks}
@@ -458,7 +458,7 @@ parameters-shrink qs ts r (L.a-param {p = q} {ps = ps} {a = a} h k) =
 abbrev made : Name → List Param → Block → Proc
 made n ps b = record { name = n; params = ps; body = b }
 
-procs-sound : (n : ℕ) → Sounds (procedures n) Procs
+procs-sound : (n : ℕ) → Sounds (procedures n) (Procs-within 16)
 procs-sound zero ts x e = no-ok NotAllowed (here ts .at) x e
 procs-sound (suc n) ts x e =
     elim (if-inv (is (codes "proc") ts) (λ u. G.a-proc (rest ts) >>= (λ p. procedures n (p .1) >>= (λ ps. Ok (p .0 ∷ ps .0, ps .1)))) (λ u. Ok ([], ts)) (Ok x) e) [
@@ -470,16 +470,16 @@ procs-sound (suc n) ts x e =
           let b = bound (block 16 (ps .0 .1)) (λ b. Ok (made (v .0 .0) (ps .0 .0) (b .0), b .1)) (q .0) (ps .2) in
           let same-q = ok-eq (made (v .0 .0) (ps .0 .0) (b .0 .0), b .0 .1) (q .0) (b .2) in
           let t : ts ≡ sign (codes "proc") (here ts .at) ∷ name-token (v .0 .0) ∷ v .0 .1 = sign-is (codes "proc") ts (i .0) ∙ ap (λ z. sign (codes "proc") (here ts .at) ∷ z) (a-name-is (rest ts) (v .0) (v .1)) in
-          let rest-is : Procs (more .0 .0) (b .0 .1) (more .0 .1) = subst (λ (z : Proc × Tokens). Procs (more .0 .0) (z .1) (more .0 .1)) (sym same-q) (procs-sound n (q .0 .1) (more .0) (more .1)) in
-          let all-is : Procs (made (v .0 .0) (ps .0 .0) (b .0 .0) ∷ more .0 .0) ts (more .0 .1) =
-          subst (λ (z : Tokens). Procs (made (v .0 .0) (ps .0 .0) (b .0 .0) ∷ more .0 .0) z (more .0 .1)) (sym t)
+          let rest-is : Procs-within 16 (more .0 .0) (b .0 .1) (more .0 .1) = subst (λ (z : Proc × Tokens). Procs-within 16 (more .0 .0) (z .1) (more .0 .1)) (sym same-q) (procs-sound n (q .0 .1) (more .0) (more .1)) in
+          let all-is : Procs-within 16 (made (v .0 .0) (ps .0 .0) (b .0 .0) ∷ more .0 .0) ts (more .0 .1) =
+          subst (λ (z : Tokens). Procs-within 16 (made (v .0 .0) (ps .0 .0) (b .0 .0) ∷ more .0 .0) z (more .0 .1)) (sym t)
           (L.a-proc (here ts .at) (v .0 .0) (parens-sound 16 (λ n. parameters) (λ n. Parameters) (λ n. parameters-sound) (v .0 .1) (ps .0) (ps .1)) (blocks-sound 16 (ps .0 .1) (b .0) (b .1)) rest-is) in
-          subst (λ (z : List Proc × Tokens). Procs (z .0) ts (z .1)) (ok-eq (q .0 .0 ∷ more .0 .0, more .0 .1) x (more .2))
-          (subst (λ (z : Proc × Tokens). Procs (z .0 ∷ more .0 .0) ts (more .0 .1)) same-q all-is)
-      | inr i ↦ subst (λ (z : List Proc × Tokens). Procs (z .0) ts (z .1)) (ok-eq ([], ts) x (i .1)) no-proc
+          subst (λ (z : List Proc × Tokens). Procs-within 16 (z .0) ts (z .1)) (ok-eq (q .0 .0 ∷ more .0 .0, more .0 .1) x (more .2))
+          (subst (λ (z : Proc × Tokens). Procs-within 16 (z .0 ∷ more .0 .0) ts (more .0 .1)) same-q all-is)
+      | inr i ↦ subst (λ (z : List Proc × Tokens). Procs-within 16 (z .0) ts (z .1)) (ok-eq ([], ts) x (i .1)) no-proc
     ]
 
-procs-read : (qs : List Proc) (ts r : Tokens) (at n : ℕ) → Procs qs ts (sign (codes "main") at ∷ r) → length ts < n → procedures n ts ≡ Ok (qs, sign (codes "main") at ∷ r)
+procs-read : (qs : List Proc) (ts r : Tokens) (at n : ℕ) → Procs-within 16 qs ts (sign (codes "main") at ∷ r) → length ts < n → procedures n ts ≡ Ok (qs, sign (codes "main") at ∷ r)
 procs-read qs ts r at zero h l = absurd (omega arith)
 procs-read qs ts r at (suc n) no-proc l = refl
 procs-read qs ts r at (suc n) (L.a-proc c v {ps = ps} {b = b} {qs = ks} {ts = t} {t = u} {u = w} h i j) l =
@@ -515,7 +515,7 @@ parsed-sound ts t e =
       | inl i ↦
           subst (λ (z : Tree). Program-is z ts) (ok-eq (record { procs = ps .0 .0; main = b .0 .0 }) t (i .1))
           (program (here (ps .0 .1) .at)
-          (subst (λ (z : Tokens). Procs (ps .0 .0) ts z) (eaten (codes "main") (ps .0 .1) (a .0) (a .1)) (procs-sound (suc (length ts)) ts (ps .0) (ps .1)))
+          (subst (λ (z : Tokens). Procs-within 16 (ps .0 .0) ts z) (eaten (codes "main") (ps .0 .1) (a .0) (a .1)) (procs-sound (suc (length ts)) ts (ps .0) (ps .1)))
           (blocks-sound 16 (a .0) (b .0) (b .1)) (ended (b .0 .1) (i .0)))
       | inr i ↦ no-ok NotAllowed (here (b .0 .1) .at) t (i .1)
     ]

@@ -144,18 +144,33 @@ pub data Parameters : List Param → Tokens → Tokens → Type 0 where
   no-param : {r : Tokens} → Parameters [] r r
   a-param : {p : Param} {ps : List Param} {ts a r : Tokens} → Param-is p ts a → MoreParams 7 ps a r → Parameters (p ∷ ps) ts r
 
-pub data Procs : List Proc → Tokens → Tokens → Type 0 where
-  no-proc : {r : Tokens} → Procs [] r r
-  a-proc : (at : ℕ) (n : Name) {ps : List Param} {b : Block} {qs : List Proc} {ts t u r : Tokens} → In-room 16 (λ m. Parameters ps) ts t → Block-is 16 b t u → Procs qs u r
-      → Procs (record { name = n; params = ps; body = b } ∷ qs) (sign (codes "proc") at ∷ name-token n ∷ ts) r
+-- parameters in parentheses, where so many brackets may be open
+abbrev pub Listed : ℕ → List Param → Tokens → Tokens → Type 0
+Listed room ps ts r = In-room room (λ m. Parameters ps) ts r
+
+pub data Procs (P : List Param → Tokens → Tokens → Type 0) (B : Block → Tokens → Tokens → Type 0) : List Proc → Tokens → Tokens → Type 0 where
+  no-proc : {r : Tokens} → Procs P B [] r r
+  a-proc : (at : ℕ) (n : Name) {ps : List Param} {b : Block} {qs : List Proc} {ts t u r : Tokens} → P ps ts t → B b t u → Procs P B qs u r
+      → Procs P B (record { name = n; params = ps; body = b } ∷ qs) (sign (codes "proc") at ∷ name-token n ∷ ts) r
 
 pub data Ends : Tokens → Type 0 where
   all-read : Ends []
   at-end : (w : List ℕ) (at : ℕ) (r : Tokens) → Ends (record { class = finish; text = w; at = at } ∷ r)
 
-pub data Program-is : Tree → Tokens → Type 0 where
-  program : (at : ℕ) {ps : List Proc} {b : Block} {ts t r : Tokens} → Procs ps ts (sign (codes "main") at ∷ t) → Block-is 16 b t r → Ends r
-      → Program-is (record { procs = ps; main = b }) ts
+pub data Program-over (P : List Param → Tokens → Tokens → Type 0) (B : Block → Tokens → Tokens → Type 0) : Tree → Tokens → Type 0 where
+  program : (at : ℕ) {ps : List Proc} {b : Block} {ts t r : Tokens} → Procs P B ps ts (sign (codes "main") at ∷ t) → B b t r → Ends r
+      → Program-over P B (record { procs = ps; main = b }) ts
+
+abbrev pub Procs-within : ℕ → List Proc → Tokens → Tokens → Type 0
+Procs-within room = Procs (Listed room) (Block-is room)
+
+-- a text with at most so many brackets open at once
+abbrev pub Program-within : ℕ → Tree → Tokens → Type 0
+Program-within room = Program-over (Listed room) (Block-is room)
+
+-- a text of the language
+abbrev pub Program-is : Tree → Tokens → Type 0
+Program-is = Program-within 16
 
 -- ---- the theorem: a text is parsed to a tree exactly if the grammar gives it that tree, with at most 16 brackets open
 
@@ -167,3 +182,10 @@ abbrev pub Refused-early : Type 0
 Refused-early =
     (ts : Tokens) (x : Fault) → parsed ts ≡ Err x
     → (pre : Tokens) × (s : Tokens) × (ts ≡ pre ++ s) × (here s .at ≡ x .offset) × ((s′ : Tokens) (t : Tree) → here s′ ≡ here s → Program-is t (pre ++ s′) → ⊥)
+
+-- The tokens before the refused one begin a text of the grammar, in which one bracket more may be open:
+-- where 16 are open and the grammar wants a bracket next, as after `if`, there is no shorter way.
+abbrev pub Refused-begun : Type 0
+Refused-begun =
+    (ts : Tokens) (x : Fault) → parsed ts ≡ Err x
+    → (pre : Tokens) × (s : Tokens) × (ts ≡ pre ++ s) × (here s .at ≡ x .offset) × ((r : Tokens) × (t : Tree) × Program-within 17 t (pre ++ r))
