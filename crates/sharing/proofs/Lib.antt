@@ -1,3 +1,6 @@
 pub mod Listed
 pub mod Ported
 pub mod Held
+pub mod Members
+pub mod Pairs
+pub mod Passing

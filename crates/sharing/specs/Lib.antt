@@ -1,2 +1,3 @@
 pub mod Opening
 pub mod Standing
+pub mod Fairness

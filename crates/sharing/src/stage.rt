@@ -9,6 +9,7 @@ ghost use Rattle.unfold.specs.Views.{Gives, node, nodes as meant, branches as a
 use crate::names::check_references;
 use crate::ports::check_ports;
 use crate::tries::check_caught;
+use crate::tries::close;
 use crate::tries::open;
 use crate::writes::check_writes;
 use grammar::tree::Name;
@@ -34,7 +35,7 @@ fn check_node(text: &[u8], tries: &mut Vec<Name>, u: &Node) -> Result<(), Error>
             let count = tries.len();
             open(tries, part)?;
             check_nodes(text, tries, first)?;
-            tries.truncate(count);
+            close(tries, count);
             check_nodes(text, tries, second)
         }
         Node::Par(at, _, branches) => {

@@ -1,5 +1,6 @@
 // The open tries: a table whose last name is that of the innermost.
 ghost use mathlib.Core.Path.{_≡_};
+ghost use lib.ListN.{take};
 ghost use Rattle.std.specs.Of.Vec.{vec-items};
 ghost use Rattle.reader.specs.declared.fault.Cause.the-variants.{Uncaught};
 ghost use Rattle.reader.specs.Faults.{must};
@@ -38,4 +39,11 @@ pub fn open(tries: &mut Vec<Name>, part: &Part) -> Result<(), Error>
     };
     tries.push(*n)?;
     Ok(())
+}
+
+// Only the first tries are open again: a catch block is not held by its own try.
+pub fn close(tries: &mut Vec<Name>, count: usize)
+    ensures { λ _. ⌜ vec-items (now (tries .exit)) ≡ take count (vec-items (now (tries .entry))) ⌝ }
+{
+    tries.truncate(count);
 }

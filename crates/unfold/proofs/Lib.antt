@@ -1,2 +1,5 @@
-pub mod Alike
 pub mod Lookups
+pub mod Adding
+pub mod Gains
+pub mod Passes
+pub mod Weights

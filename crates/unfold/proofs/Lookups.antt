@@ -16,13 +16,13 @@ pub look-here : (text w : List ℕ) (bs : List code-binding.Binding) (i : ℕ) (
     → true ≡ same w (binding text (getD bs i d) .name) → lookup (env text (drop i bs)) w ≡ Some (binding text (getD bs i d))
 look-here text w bs i d h e =
     at-drop-more (λ (cs : List code-binding.Binding). lookup (env text cs) w) bs i d h
-      ∙ ap (λ (b : Bool). elim b [ true ↦ Some (binding text (getD bs i d)) | false ↦ lookup (env text (drop (i + 1) bs)) w ]) (sym e)
+    ∙ ap (λ (b : Bool). elim b [ true ↦ Some (binding text (getD bs i d)) | false ↦ lookup (env text (drop (i + 1) bs)) w ]) (sym e)
 
 pub look-on : (text w : List ℕ) (bs : List code-binding.Binding) (i : ℕ) (d : code-binding.Binding) → i < length bs
     → false ≡ same w (binding text (getD bs i d) .name) → lookup (env text (drop i bs)) w ≡ lookup (env text (drop (i + 1) bs)) w
 look-on text w bs i d h e =
     at-drop-more (λ (cs : List code-binding.Binding). lookup (env text cs) w) bs i d h
-      ∙ ap (λ (b : Bool). elim b [ true ↦ Some (binding text (getD bs i d)) | false ↦ lookup (env text (drop (i + 1) bs)) w ]) (sym e)
+    ∙ ap (λ (b : Bool). elim b [ true ↦ Some (binding text (getD bs i d)) | false ↦ lookup (env text (drop (i + 1) bs)) w ]) (sym e)
 
 pub look-end : (text w : List ℕ) (bs : List code-binding.Binding) (i : ℕ) → length bs ≤ i → lookup (env text (drop i bs)) w ≡ None
 look-end text w bs i h = at-drop-all (λ (cs : List code-binding.Binding). lookup (env text cs) w) bs i h

@@ -4,3 +4,8 @@ pub mod Variables
 pub mod Unfolding
 pub mod Sharing
 pub mod Views
+pub mod Calls
+pub mod Occurrences
+pub mod Steps
+pub mod Getting
+pub mod Passing

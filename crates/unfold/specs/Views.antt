@@ -1,6 +1,6 @@
 -- What the code's unfolded text stands for, given the text that its names are parts of.
 use mathlib.Core.Path.{_≡_}
-use mathlib.Core.List.{List, [], _∷_}
+use mathlib.Core.List.{List, [], _∷_, _++_}
 use mathlib.Core.Bool.{Bool}
 use Prim.Native.Nat.{ℕ}
 use Rattle.std.specs.Of.Vec.{vec-items}
@@ -28,8 +28,10 @@ use Rattle.unfold.specs.declared.nodes.Nodes as code-nodes
 use Rattle.unfold.specs.declared.nodes.Branches as code-branches
 use Rattle.unfold.specs.declared.nodes.Branches.the-variants as tree
 use Rattle.unfold.specs.declared.scopes.Binding as code-binding
+use Rattle.unfold.specs.declared.counts.Count as code-count
 use Rattle.unfold.specs.Unfolded.{New, Got, Part, plain, calls, tests, loops, tries, takes, Node, one, throws, two, par, Nodes, nil, seq, Branches, last, also}
 use Rattle.unfold.specs.Scopes.{Binding, Env}
+use Rattle.unfold.specs.Unfolding.{Count}
 
 -- Code that allocates may also run out of memory; otherwise it answers what the definition says.
 abbrev pub Gives : {A V : Type 0} → (V → A) → Result V Error → Answer A → Type 0
@@ -37,9 +39,17 @@ Gives view (Ok v) r = r ≡ Ok (view v)
 Gives view (Err (Refused f)) r = r ≡ Err f
 Gives view (Err OutOfMemory) r = Unit {0}
 
+-- code that refuses nothing fails only for want of memory
+abbrev pub Builds : {V : Type 0} → (V → Type 0) → Result V Error → Type 0
+Builds P (Ok v) = P v
+Builds P (Err e) = e ≡ OutOfMemory
+
 abbrev pub perhaps : {A V : Type 0} → (V → A) → Option V → Option A
 perhaps view None = None
 perhaps view (Some v) = Some (view v)
+
+abbrev pub count : code-count.Count → Count
+count n = record { statements = n .statements; places = n .places; cells = n .cells }
 
 abbrev pub binding : List ℕ → code-binding.Binding → Binding
 binding text b = record { name = name text (b .name) .text; own = b .own; home = b .home }
@@ -107,3 +117,18 @@ abbrev mutual
   pub branches : List ℕ → code-branches.Branches → Branches
   branches text tree.Last = last
   branches text (tree.Also′ gs p us q bs) = also (gots text (vec-items gs)) (nodes text us) (branches text bs)
+
+-- the cells that a statement brings, before and after some are added, which fails only for want of memory
+abbrev pub More-news : List ℕ → List code-new.New → List New → Result (Unit {0}) Error → List code-new.New → Type 0
+More-news text ns more (Ok u) ms = news text ms ≡ news text ns ++ more
+More-news text ns more (Err e) ms = e ≡ OutOfMemory
+
+-- a part of the unfolded text, and how much there is with it
+abbrev pub node-count : List ℕ → code-node.Node × code-count.Count → Node × Count
+node-count text p = (node text (p .0), count (p .1))
+
+abbrev pub nodes-count : List ℕ → code-nodes.Nodes × code-count.Count → Nodes × Count
+nodes-count text p = (nodes text (p .0), count (p .1))
+
+abbrev pub branches-count : List ℕ → code-branches.Branches × code-count.Count → Branches × Count
+branches-count text p = (branches text (p .0), count (p .1))

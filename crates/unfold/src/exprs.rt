@@ -30,7 +30,13 @@ fn join(operator: Operator, left: Box<Expr>, right: Box<Expr>) -> Expr
     }
 }
 
-pub fn resolve<K: NumberKind>(heap: Global, kind: &K, text: &[u8], bindings: &[Binding], e: &tree::Expr) -> Result<Expr, Error>
+pub fn resolve<K: NumberKind>(
+    heap: Global,
+    kind: &K,
+    text: &[u8],
+    bindings: &[Binding],
+    e: &tree::Expr,
+) -> Result<Expr, Error>
     ensures { λ r. ⌜ Gives expr r (resolved (literal-reading (K·NumberKind .meaning)) (env (now (text .entry)) (now (bindings .entry))) (exp (now (text .entry)) (now (e .entry)))) ⌝ }
 {
     match e {
@@ -40,7 +46,10 @@ pub fn resolve<K: NumberKind>(heap: Global, kind: &K, text: &[u8], bindings: &[B
         }
         tree::Expr::Number(n) => match read_literal(kind, bytes(text, *n)) {
             Some(w) => Ok(Expr::Word(w)),
-            None => Err(Error::Refused(Fault { cause: Cause::OutOfRange, offset: n.at })),
+            None => Err(Error::Refused(Fault {
+                cause: Cause::OutOfRange,
+                offset: n.at,
+            })),
         },
         tree::Expr::Negated(a) => {
             let right = resolve(heap, kind, text, bindings, a)?;

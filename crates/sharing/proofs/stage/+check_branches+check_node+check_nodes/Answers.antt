@@ -28,8 +28,8 @@ pub check-node-returns-in-Continue-check-nodes : need.check-node-returns-in-Cont
 check-node-returns-in-Continue-check-nodes t c =
     let text = c .args .text .now in
     let ns = vec-items (c .args .tries .now) in
-    second-is text ns (vec-items (c .open .last .tries)) (vec-items (c .check-nodes .last .tries)) (vec-items (c .truncate .last .self)) (vec-items (c .check-nodes-in-Two .last .tries))
+    second-is text ns (vec-items (c .open .last .tries)) (vec-items (c .check-nodes .last .tries)) (vec-items (c .close .last .tries)) (vec-items (c .check-nodes-in-Two .last .tries))
     (c .len-count .result) (c .in-Two .at) (c .in-Two .part) (c .in-Two .first .value) (c .deref .result .now) (c .in-Two .second .value) (c .deref-in-Two .result .now)
     (node-sharing (scope text ns) (node text (c .args .u .now))) (c .check-nodes-in-Two .result)
     (ap (λ (x : code-node.Node). node-sharing (scope text ns) (node text x)) (c .in-Two .is)) (c .deref .ensures) (c .deref-in-Two .ensures) (c .in-Continue-check-references .ensures tt) (c .in-Continue-open .ensures tt)
-    (c .in-Continue-check-nodes .ensures tt) (c .len-count .ensures ∙ c .args .tries .now .ok .0) (c .truncate .ensures .items) (c .check-nodes-in-Two .ensures)
+    (c .in-Continue-check-nodes .ensures tt) (c .len-count .ensures ∙ c .args .tries .now .ok .0) (c .close .ensures) (c .check-nodes-in-Two .ensures)
