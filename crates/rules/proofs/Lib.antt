@@ -1,0 +1,12 @@
+pub mod Locals
+pub mod Commute
+pub mod Tree
+pub mod Readiness
+pub mod Acts
+pub mod Places
+pub mod Cells
+pub mod Stable
+pub mod Diamonds
+pub mod Invariant
+pub mod Runs
+pub mod Decide

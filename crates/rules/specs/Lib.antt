@@ -1,0 +1,14 @@
+pub mod Programs
+pub mod Trees
+pub mod Soundness
+pub mod Values
+pub mod States
+pub mod Readiness
+pub mod Permissions
+pub mod Effects
+pub mod Steps
+pub mod Moves
+pub mod Invariants
+pub mod Runs
+pub mod Tests
+pub mod Theorems
