@@ -1,0 +1,11 @@
+use mathlib.Core.Path.{sym}
+use native.Mathlib.Omega.{arith}
+use Rattle.std.specs.Of.Vec.{vec-items}
+use Rattle.tables.proofs.Reading.{read, past}
+use Rattle.tables.proofs.tables.Tables.offset.Needs as need
+
+pub returns-then-x-len : need.returns-then-x-len
+returns-then-x-len c = sym (read (vec-items (c .args .self .now .points)) (c .args .x) _ (omega arith) (c .index .ensures) .offset-is)
+
+pub returns-else-x-len : need.returns-else-x-len
+returns-else-x-len c = sym (past (vec-items (c .args .self .now .points)) (c .args .x) (omega arith) .offset-is)

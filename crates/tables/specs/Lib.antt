@@ -1,0 +1,4 @@
+pub mod Fit
+pub mod Listings
+pub mod Stms
+pub mod Views

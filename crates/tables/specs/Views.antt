@@ -1,0 +1,32 @@
+-- The table of the rules that a program's tables stand for.
+use mathlib.Core.Option.{Option, some, none}
+use Prim.Native.Nat.{ℕ}
+use lib.ListN.{getD}
+use Rattle.std.specs.Of.Vec.{vec-items, vec-len}
+use Rattle.std.specs.declared.option.Option as std
+use Rattle.std.specs.declared.option.Option.the-variants.{Some, None}
+use Rattle.rules.specs.Programs.{Table}
+use Rattle.tables.specs.declared.tables.Tables.{Tables}
+use Rattle.tables.specs.Fit.{no-place, no-cell}
+use Rattle.tables.specs.Stms.{stm-at, after-at, place-at, catches-at, has-got}
+
+abbrev pub table : Tables → Table
+table t =
+    record {
+      places = vec-len (t .places);
+      parent = λ q. getD (vec-items (t .places)) q no-place .parent;
+      under = λ q. getD (vec-items (t .places)) q no-place .under;
+      start = λ q. getD (vec-items (t .places)) q no-place .start;
+      knows = has-got (vec-items (t .got));
+      declarer = λ c. getD (vec-items (t .cells)) c no-cell .declarer;
+      home = λ c. getD (vec-items (t .cells)) c no-cell .home;
+      place = place-at (vec-items (t .points));
+      stm = stm-at (vec-items (t .points));
+      after = after-at (vec-items (t .points));
+      catches = catches-at (vec-items (t .points));
+    }
+
+-- an option of the code as one of the rules
+abbrev pub awaited : std.Option (ℕ × ℕ) → Option (ℕ × ℕ)
+awaited None = none
+awaited (Some d) = some d

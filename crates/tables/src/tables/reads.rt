@@ -1,0 +1,216 @@
+// Looking things up in the tables. A number past a table's end reads as 0, a point past the end as an end.
+ghost use mathlib.Core.Path.{_≡_};
+ghost use mathlib.Core.Bool.{Bool, true, false};
+ghost use Prim.Native.Nat.{ℕ, _≤_, _<_, _+_};
+ghost use lib.ListN.{length, getD};
+ghost use Rattle.std.specs.Of.Vec.{vec-items, vec-len};
+ghost use Rattle.std.specs.Slices.{found};
+ghost use Rattle.std.specs.Options.{Cases as BySome};
+ghost use Rattle.rules.specs.Programs.{awaits, end};
+ghost use Rattle.rules.specs.Trees.{within};
+ghost use Rattle.rules.specs.Tests.{child};
+ghost use Rattle.tables.specs.Listings.{cells-of, moved, named-move, home-of, Exists, move};
+ghost use Rattle.tables.specs.Stms.{stm, offset-at, name-at};
+ghost use Rattle.tables.specs.Views.{table, awaited};
+use crate::moves::Move;
+use crate::rows::Point;
+use crate::stmt::Stmt;
+use crate::tables::Tables;
+
+impl Tables {
+    // How many places there are.
+    pub fn place_count(&self) -> usize
+        ensures is { λ r. ⌜ r ≡ table (now (self .entry)) .places ⌝ }
+        ensures some { λ r. ⌜ 0 < r ⌝ }
+        ensures few { λ r. ⌜ r ≤ 64 ⌝ }
+    {
+        self.places.len()
+    }
+
+    // The place that a place is a branch of.
+    pub fn parent(&self, q: usize) -> usize
+        ensures is { λ r. ⌜ r ≡ table (now (self .entry)) .parent q ⌝ }
+        ensures low { λ r. ⌜ (0 < q → r < q) ⌝ }
+    {
+        if q < self.places.len() {
+            self.places[q].parent as usize
+        } else {
+            0
+        }
+    }
+
+    // Whether `q` is a child of `p`.
+    pub fn child(&self, p: usize, q: usize) -> bool
+        ensures { λ r. ⌜ r ≡ child (table (now (self .entry))) p q ⌝ }
+    {
+        q != 0 && self.parent(q) == p
+    }
+
+    // Whether `q` is `p` or stands below it: from child to parent, up to the main block.
+    pub fn within(&self, p: usize, q: usize) -> bool
+        ensures { λ r. ⌜ r ≡ within (table (now (self .entry))) p q ⌝ }
+    {
+        let mut v = q;
+        while v != p {
+            if v == 0 {
+                return false;
+            }
+            v = self.parent(v);
+        }
+        true
+    }
+
+    // The first point of a place.
+    pub fn start(&self, q: usize) -> u16
+        ensures { λ r. ⌜ r ≡ table (now (self .entry)) .start q ⌝ }
+    {
+        if q < self.places.len() {
+            self.places[q].start
+        } else {
+            0
+        }
+    }
+
+    // How many cells there are.
+    pub fn cell_count(&self) -> usize
+        ensures is { λ r. ⌜ r ≡ cells-of (now (self .entry)) ⌝ }
+        ensures few { λ r. ⌜ r ≤ 128 ⌝ }
+    {
+        self.cells.len()
+    }
+
+    // The move that a kind and two numbers name.
+    pub fn move_of(&self, kind: u32, a: u32, b: u32) -> Option<Move>
+        ensures is { λ r. ⌜ moved r ≡ named-move (table (now (self .entry))) (cells-of (now (self .entry))) kind a b ⌝ }
+        ensures exists { λ r. ⌜ found r (λ m. Exists (table (now (self .entry))) (move m)) ⌝ }
+    {
+        let p = a as usize;
+        let placed = p < self.place_count();
+        match kind {
+            0 if placed && b == 0 => Some(Move::Step(p as u16)),
+            1 if placed && b == 0 => Some(Move::Close(p as u16)),
+            2 if b == 0 && self.is_home(p) => Some(Move::Meet(p as u16)),
+            3 if placed && self.is_home(b as usize) => Some(Move::Poison(p as u16, b as u16)),
+            _ => None,
+        }
+    }
+
+    // Whether a number is a home of the board.
+    pub fn is_home(&self, h: usize) -> bool
+        ensures is { λ r. ⌜ r ≡ home-of (table (now (self .entry))) (cells-of (now (self .entry))) h ⌝ }
+        ensures few { λ r. ⌜ (r ≡ true → h < 128) ⌝ }
+    {
+        h < self.cell_count() && self.home(h) == h
+    }
+
+    // The home of a cell.
+    pub fn home(&self, c: usize) -> usize
+        ensures { λ r. ⌜ r ≡ table (now (self .entry)) .home c ⌝ }
+    {
+        if c < self.cells.len() {
+            self.cells[c].home as usize
+        } else {
+            0
+        }
+    }
+
+    // The place that declared a cell.
+    pub fn declarer(&self, c: usize) -> usize
+        ensures is { λ r. ⌜ r ≡ table (now (self .entry)) .declarer c ⌝ }
+        ensures placed { λ r. ⌜ r < table (now (self .entry)) .places ⌝ }
+    {
+        if c < self.cells.len() {
+            self.cells[c].declarer as usize
+        } else {
+            0
+        }
+    }
+
+    // Where the name of a cell stands in the text: its first byte and its length.
+    pub fn recorded_name(&self, c: usize) -> Option<(usize, usize)>
+        ensures { λ r. ⌜ r ≡ name-at (vec-items (now (self .entry) .cells)) c ⌝ }
+    {
+        if c < self.cells.len() {
+            let cell = self.cells[c];
+            Some((cell.at, cell.len))
+        } else {
+            None
+        }
+    }
+
+    // The point after the statement at a point.
+    pub fn after(&self, x: u16) -> u16
+        ensures { λ r. ⌜ r ≡ table (now (self .entry)) .after x ⌝ }
+    {
+        let x = x as usize;
+        if x < self.points.len() {
+            self.points[x].after
+        } else {
+            0
+        }
+    }
+
+    // The offset in the text of the statement at a point.
+    pub fn offset(&self, x: u16) -> usize
+        ensures { λ r. ⌜ r ≡ offset-at (vec-items (now (self .entry) .points)) x ⌝ }
+    {
+        let x = x as usize;
+        if x < self.points.len() {
+            self.points[x].offset
+        } else {
+            0
+        }
+    }
+
+    // The catch block of the try `j` from outside, counted from 0, that is open at the par at `x`.
+    pub fn catch_block(&self, x: u16, j: usize) -> u16
+        ensures { λ r. ⌜ r ≡ getD (table (now (self .entry)) .catches x) j 0 ⌝ }
+    {
+        let x = x as usize;
+        if x >= self.points.len() {
+            return 0;
+        }
+        let blocks = self.points[x].catches.as_slice();
+        if j < blocks.len() { blocks[j] } else { 0 }
+    }
+
+    // The row of a point; past the last one stands an end.
+    pub fn point(&self, x: u16) -> Option<&Point>
+        ensures { λ r. ⌜ BySome r (table (now (self .entry)) .stm x ≡ end) (λ s. table (now (self .entry)) .stm x ≡ stm (now s .place) (now s .stmt)) ⌝ }
+    {
+        let x = x as usize;
+        if x < self.points.len() {
+            Some(&self.points[x])
+        } else {
+            None
+        }
+    }
+
+    // Whether a place got a variable of a home at its start, and so knows it.
+    pub fn knows(&self, q: usize, h: usize) -> bool
+        ensures { λ r. ⌜ r ≡ table (now (self .entry)) .knows q h ⌝ }
+    {
+        for i in 0..self.got.len() {
+            let g = self.got[i];
+            if g.place as usize == q && g.home as usize == h {
+                return true;
+            }
+        }
+        false
+    }
+
+    // The own cell and the home of the next at a point, if one stands there.
+    pub fn awaits(&self, x: u16) -> Option<(u16, u16)>
+        ensures is { λ r. ⌜ awaited r ≡ awaits (table (now (self .entry)) .stm x) ⌝ }
+        ensures named { λ r. ⌜ found r (λ d. d .0 < 128) ⌝ }
+    {
+        let x = x as usize;
+        if x >= self.points.len() {
+            return None;
+        }
+        match &self.points[x].stmt {
+            Stmt::Next(c, h) => Some((*c, *h)),
+            _ => None,
+        }
+    }
+}
