@@ -1,1 +1,6 @@
+pub mod Binary
+pub mod Decimal
 pub mod Kinds
+pub mod Literals
+pub mod Readings
+pub mod Texts

@@ -1,0 +1,11 @@
+use borrow.Author.Needs.{needs}
+use Rattle.banks.proofs.counter.CounterBank.take.Needs as need
+use native.Mathlib.Omega.{arith}
+use Rattle.std.proofs.shelf.Ways.{tells}
+use Rattle.std.proofs.shelf.Lists.{getD-set-same, getD-set-other}
+use Rattle.std.proofs.shelf.Tests.{cases-eq}
+use Rattle.banks.proofs.Ports.{counted-more}
+
+-- src/counter.rt:29:5
+pub returns : need.returns
+returns c = record { first = grind (arith, tells, counted-more); rest = λ p. grind (arith, tells, counted-more, getD-set-same, getD-set-other, cases-eq p (c .args .port)) }

@@ -1,0 +1,5 @@
+use Rattle.banks.proofs.Takes.{takes-commute, many-takes}
+use Rattle.banks.proofs.laws.takes_are_orderly.Needs as need
+
+pub returns : need.returns
+returns c = record { commute = takes-commute; many = many-takes }

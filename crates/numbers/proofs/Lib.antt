@@ -1,0 +1,5 @@
+pub mod Literals
+pub mod Packs
+pub mod Readings
+pub mod Signs
+pub mod Writing

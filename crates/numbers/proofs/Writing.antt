@@ -1,0 +1,50 @@
+-- The digits before the last one.
+use mathlib.Core.Path.{_≡_, refl, sym, ap, _∙_, subst}
+use mathlib.Core.Bool.{Bool, true, false, cond}
+use mathlib.Core.List.{List, [], _∷_, _++_, append-assoc}
+use Prim.Native.Nat.{ℕ, _+_, _-_, _*_, _/_, _%_, _^_, _<_, _≤_, zero, suc}
+use native.Mathlib.Omega.{arith}
+use native.Mathlib.Numerals.{add-one, sub-one}
+use native.Mathlib.Nat.{pow-suc}
+use lib.Dec.{ltb}
+use lib.ListN.{length, drop, set, length-drop}
+use Rattle.std.proofs.shelf.Lists.{drop-set}
+use Rattle.std.specs.Written.{decimal}
+use Rattle.std.proofs.shelf.Decimals.{decimal-digit, decimal-step, length-decimal-le}
+use Rattle.std.proofs.shelf.Tests.{cond-true, cond-false, lt-ltb, le-ltb, ltb-true, ltb-false}
+
+abbrev pub before : ℕ → List ℕ
+before n = cond (ltb n 10) [] (decimal (n / 10))
+
+pub decimal-last : (n : ℕ) → n < 2 ^ 32 → decimal n ≡ before n ++ ((48 + n % 10) ∷ [])
+decimal-last n h = by-ltb (ltb n 10) refl
+  where
+    by-ltb : (b : Bool) → ltb n 10 ≡ b → decimal n ≡ cond b [] (decimal (n / 10)) ++ ((48 + n % 10) ∷ [])
+    by-ltb true e =
+        let lt : n < 10 = ltb-true n 10 e in
+        decimal-digit n lt ∙ ap (λ m. (48 + m) ∷ []) (omega arith)
+    by-ltb false e = decimal-step n (ltb-false n 10 e) (omega arith)
+
+pub tenth : (n k : ℕ) → 10 ≤ n → n < 10 ^ k → n / 10 < 10 ^ (k - 1)
+tenth n zero ten h = absurd (omega (arith, h))
+tenth n (suc k) ten h = rw sub-one (omega (arith, pow-suc 10 k))
+
+pub some-left : (n k : ℕ) → 10 ≤ n → n < 10 ^ k → 0 < k
+some-left n zero ten h = absurd (omega (arith, h))
+some-left n (suc k) ten h = omega arith
+
+pub digit-more : (n rest from : ℕ) (bs : List ℕ) → n < 2 ^ 32 → rest ≤ n → 10 ≤ rest → 0 < from → from ≤ length bs
+  → decimal n ≡ before rest ++ drop from bs
+  → decimal n ≡ before (rest / 10) ++ drop (from - 1) (set bs (from - 1) (48 + rest / 10 % 10))
+digit-more n rest zero bs h le ten pos in-bs e = absurd (omega arith)
+digit-more n rest (suc from) bs h le ten pos in-bs e =
+    let small : rest / 10 < 2 ^ 32 = omega arith in
+    e ∙ ap (λ ds. ds ++ drop (suc from) bs) (cond-false _ _ _ (le-ltb rest 10 ten) ∙ decimal-last (rest / 10) small)
+    ∙ append-assoc (before (rest / 10)) ((48 + rest / 10 % 10) ∷ []) (drop (suc from) bs)
+    ∙ ap (λ ds. before (rest / 10) ++ ds) (rw (sub-one, drop-set bs from (48 + rest / 10 % 10) (omega arith), add-one) refl)
+
+-- ten digits in eleven bytes leave one for a sign
+pub sign-fits : (n from : ℕ) (bs : List ℕ) → n < 2 ^ 32 → length bs ≡ 11 → drop from bs ≡ decimal n → 1 ≤ from
+sign-fits n from bs small whole e =
+    let few = length-decimal-le 10 n (omega arith) (omega arith) (omega arith) in
+    omega (arith, ap length e, length-drop from bs)

@@ -1,0 +1,9 @@
+use mathlib.Core.Path.{_≡_}
+use Prim.Native.Nat.{_<_, _≤_, _^_}
+use lib.ListN.{drop, length}
+use Rattle.numbers.specs.Literals.{digits-value}
+use Rattle.numbers.proofs.Literals.{read-on}
+use Rattle.numbers.proofs.literal.literal_value.Given as given
+
+abbrev pub Inv-loop-i : given.InvT-loop-i
+Inv-loop-i l = (l .value < 10 ^ l .i) × (length (l .digits) ≤ 10) × (digits-value (l .digits) ≡ read-on (l .value) (drop (l .i) (l .digits)))

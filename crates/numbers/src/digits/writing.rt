@@ -1,0 +1,45 @@
+// Numbers in decimal.
+ghost use mathlib.Core.Path.{_≡_};
+ghost use mathlib.Core.List.{_∷_};
+ghost use Prim.Native.Nat.{_≤_};
+ghost use lib.ListN.{length};
+ghost use Rattle.std.specs.Written.{decimal};
+ghost use Rattle.numbers.specs.Texts.{shown};
+use crate::digits::Digits;
+
+impl Digits {
+    // The written bytes.
+    pub fn as_bytes(&self) -> &[u8]
+        ensures bytes { λ r. ⌜ now r ≡ shown (now (self .entry)) ⌝ }
+        ensures short { λ r. ⌜ length (now r) ≤ 11 ⌝ }
+    {
+        &self.bytes[self.from..]
+    }
+}
+
+// A number in decimal, without leading zeros.
+pub fn decimal_digits(n: u32) -> Digits
+    ensures { λ r. ⌜ shown r ≡ decimal n ⌝ }
+{
+    let mut bytes = [0; 11];
+    let mut from = 10;
+    let mut rest = n;
+    bytes[from] = b'0' + (rest % 10) as u8;
+    while rest >= 10 {
+        rest /= 10;
+        from -= 1;
+        bytes[from] = b'0' + (rest % 10) as u8;
+    }
+    Digits { bytes, from }
+}
+
+// A minus sign, and then a number in decimal.
+pub fn negative_digits(n: u32) -> Digits
+    ensures { λ r. ⌜ shown r ≡ 45 ∷ decimal n ⌝ }
+{
+    let digits = decimal_digits(n);
+    let mut bytes = digits.bytes;
+    let from = digits.from - 1;
+    bytes[from] = b'-';
+    Digits { bytes, from }
+}
