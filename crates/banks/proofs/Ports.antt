@@ -21,4 +21,4 @@ stretch-more mem first (suc n) h fits =
     let fits′ : (first + 1) + n ≤ length mem = omega arith in
     cond-true (leb (first + suc n) (length mem)) _ _ (le-leb _ _ fits)
     ∙ rw (drop-cons mem first 0, sub-one)
-      (ap (λ t. getD mem first 0 ∷ t) (rw (← add-one first) (sym (cond-true (leb ((first + 1) + n) (length mem)) _ _ (le-leb _ _ fits′)))))
+    (ap (λ t. getD mem first 0 ∷ t) (rw (← add-one first) (sym (cond-true (leb ((first + 1) + n) (length mem)) _ _ (le-leb _ _ fits′)))))

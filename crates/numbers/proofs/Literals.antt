@@ -20,7 +20,7 @@ abbrev pub read-on : ℕ → List ℕ → Option ℕ
 read-on n bs = cond (all-digits bs) (Some (value-of n bs)) None
 
 pub read-digit : (n i : ℕ) (bs : List ℕ) → i < length bs → 48 ≤ getD bs i 0 → getD bs i 0 ≤ 57
-  → read-on n (drop i bs) ≡ read-on (n * 10 + (getD bs i 0 - 48)) (drop (i + 1) bs)
+    → read-on n (drop i bs) ≡ read-on (n * 10 + (getD bs i 0 - 48)) (drop (i + 1) bs)
 read-digit n i bs h lo hi = rw (add-one, drop-cons bs i 0) (grind (arith, tells))
 
 pub read-other : (n i : ℕ) (bs : List ℕ) → i < length bs → is-digit (getD bs i 0) ≡ false → read-on n (drop i bs) ≡ None

@@ -1,18 +1,20 @@
--- The digits before the last one.
+-- Decimal digits at the end of an array, from the last one on.
 use mathlib.Core.Path.{_≡_, refl, sym, ap, _∙_, subst}
 use mathlib.Core.Bool.{Bool, true, false, cond}
-use mathlib.Core.List.{List, [], _∷_, _++_, append-assoc}
+use mathlib.Core.List.{List, [], _∷_, _++_, append-assoc, append-nil}
 use Prim.Native.Nat.{ℕ, _+_, _-_, _*_, _/_, _%_, _^_, _<_, _≤_, zero, suc}
 use native.Mathlib.Omega.{arith}
 use native.Mathlib.Numerals.{add-one, sub-one}
 use native.Mathlib.Nat.{pow-suc}
 use lib.Dec.{ltb}
-use lib.ListN.{length, drop, set, length-drop}
-use Rattle.std.proofs.shelf.Lists.{drop-set}
+use borrow.Rule.Slice.PartMut.{putMid}
+use lib.ListN.{length, take, drop, set, length-drop}
+use Rattle.std.proofs.shelf.Lists.{drop-set, drop-at, drop-all, length-take-le}
 use Rattle.std.specs.Written.{decimal}
 use Rattle.std.proofs.shelf.Decimals.{decimal-digit, decimal-step, length-decimal-le}
 use Rattle.std.proofs.shelf.Tests.{cond-true, cond-false, lt-ltb, le-ltb, ltb-true, ltb-false}
 
+-- the digits before the last one
 abbrev pub before : ℕ → List ℕ
 before n = cond (ltb n 10) [] (decimal (n / 10))
 
@@ -34,8 +36,8 @@ some-left n zero ten h = absurd (omega (arith, h))
 some-left n (suc k) ten h = omega arith
 
 pub digit-more : (n rest from : ℕ) (bs : List ℕ) → n < 2 ^ 32 → rest ≤ n → 10 ≤ rest → 0 < from → from ≤ length bs
-  → decimal n ≡ before rest ++ drop from bs
-  → decimal n ≡ before (rest / 10) ++ drop (from - 1) (set bs (from - 1) (48 + rest / 10 % 10))
+    → decimal n ≡ before rest ++ drop from bs
+    → decimal n ≡ before (rest / 10) ++ drop (from - 1) (set bs (from - 1) (48 + rest / 10 % 10))
 digit-more n rest zero bs h le ten pos in-bs e = absurd (omega arith)
 digit-more n rest (suc from) bs h le ten pos in-bs e =
     let small : rest / 10 < 2 ^ 32 = omega arith in
@@ -48,3 +50,11 @@ pub sign-fits : (n from : ℕ) (bs : List ℕ) → n < 2 ^ 32 → length bs ≡ 
 sign-fits n from bs small whole e =
     let few = length-decimal-le 10 n (omega arith) (omega arith) (omega arith) in
     omega (arith, ap length e, length-drop from bs)
+
+-- bytes put at the end of an array stand there
+pub put-at-end : (a k : ℕ) (xs ys zs : List ℕ) → a ≤ length xs → length xs ≤ a + k → ys ≡ zs → drop a (putMid a k xs ys) ≡ zs
+put-at-end a k xs ys zs le end e =
+    let after : List ℕ = drop k (drop a xs) in
+    drop-at (take a xs) (ys ++ after) a (length-take-le a xs le)
+    ∙ ap (λ l. ys ++ l) (drop-all k (drop a xs) (omega (arith, length-drop a xs)))
+    ∙ append-nil ys ∙ e

@@ -4,3 +4,4 @@ pub mod Kinds
 pub mod Literals
 pub mod Readings
 pub mod Texts
+pub mod Writing

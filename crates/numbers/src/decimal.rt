@@ -26,7 +26,11 @@ fn number_of(k: u32, w: u32) -> u32
     ensures value { λ r. ⌜ r ≡ unpack k w ⌝ }
     ensures small { λ r. ⌜ 3 * r + 5 ≤ 5 * 10 ^ k ⌝ }
 {
-    if k == 0 { 0 } else { w % 16 + 10 * number_of(k - 1, w / 16) }
+    if k == 0 {
+        0
+    } else {
+        w % 16 + 10 * number_of(k - 1, w / 16)
+    }
 }
 
 // The word of a number's k lowest digits.
@@ -35,7 +39,11 @@ fn word_of(k: u32, n: u32) -> u32
     ensures value { λ r. ⌜ r ≡ pack k n ⌝ }
     ensures small { λ r. ⌜ r < 16 ^ k ⌝ }
 {
-    if k == 0 { 0 } else { n % 10 + 16 * word_of(k - 1, n / 10) }
+    if k == 0 {
+        0
+    } else {
+        n % 10 + 16 * word_of(k - 1, n / 10)
+    }
 }
 
 pub impl NumberKind for Decimal as DecimalKind {
@@ -50,7 +58,10 @@ pub impl NumberKind for Decimal as DecimalKind {
     }
 
     fn difference(&self, x: u32, y: u32) -> u32 {
-        word_of(8, (number_of(8, x) + (200_000_000 - number_of(8, y))) % 100_000_000)
+        word_of(
+            8,
+            (number_of(8, x) + (200_000_000 - number_of(8, y))) % 100_000_000,
+        )
     }
 
     fn product(&self, x: u32, y: u32) -> u32 {

@@ -7,9 +7,20 @@ use Rattle.std.specs.declared.result.Result.the-variants.{Ok, Err}
 use Rattle.reader.specs.declared.fault.Fault.{Fault}
 use Rattle.reader.specs.declared.fault.Cause.{Cause}
 use Rattle.reader.specs.declared.fault.Cause.the-variants.{
-  TextTooLong, NoToken, NotAllowed, TooDeep, NotVisible, Redeclared, ArgumentCount, OutOfRange, OverLimit, WrittenTwice, ReferencedTwice, PortTwice, Uncaught,
+  TextTooLong,
+  NoToken,
+  NotAllowed,
+  TooDeep,
+  NotVisible,
+  Redeclared,
+  ArgumentCount,
+  OutOfRange,
+  OverLimit,
+  WrittenTwice,
+  ReferencedTwice,
+  PortTwice,
+  Uncaught,
 }
-
 use Rattle.reader.specs.declared.fault.Error.{Error}
 use Rattle.reader.specs.declared.fault.Error.the-variants.{Refused, OutOfMemory}
 

@@ -81,12 +81,12 @@ word-class w = cond (among w reserved) fixed name
 abbrev pub first : ℕ → List ℕ → First
 first b bs =
     elim (blank b) [
-      true ↦ space
-    | false ↦
-      elim (letter b) [
-        true ↦ let w = b ∷ run letter-or-digit bs in up-to 16 (word-class w) w
-      | false ↦ elim (digit b) [ true ↦ up-to 10 number (b ∷ run digit bs) | false ↦ sign-of signs (b ∷ bs) ]
-      ]
+      | true ↦ space
+      | false ↦
+          elim (letter b) [
+            | true ↦ let w = b ∷ run letter-or-digit bs in up-to 16 (word-class w) w
+            | false ↦ elim (digit b) [ true ↦ up-to 10 number (b ∷ run digit bs) | false ↦ sign-of signs (b ∷ bs) ]
+          ]
     ]
 
 -- the tokens of a text, of which so many bytes belong to the token before, at an offset
@@ -95,9 +95,9 @@ tokens n o [] = Ok (record { class = finish; text = []; at = o } ∷ [])
 tokens (suc n) o (b ∷ bs) = tokens n (suc o) bs
 tokens zero o (b ∷ bs) =
     elim (first b bs) [
-      space ↦ tokens zero (suc o) bs
-    | nothing ↦ refuse NoToken o
-    | lexeme c w ↦ tokens (pred (length w)) (suc o) bs >>= (λ ts. Ok (record { class = c; text = w; at = o } ∷ ts))
+      | space ↦ tokens zero (suc o) bs
+      | nothing ↦ refuse NoToken o
+      | lexeme c w ↦ tokens (pred (length w)) (suc o) bs >>= (λ ts. Ok (record { class = c; text = w; at = o } ∷ ts))
     ]
 
 abbrev pub tokenized : List ℕ → Answer (List Lexeme)

@@ -6,8 +6,35 @@ use lib.ListN.{take, drop}
 use Rattle.reader.specs.declared.token.Token.{Token}
 use Rattle.reader.specs.declared.token.Tag.{Tag}
 use Rattle.reader.specs.declared.token.Tag.the-variants.{
-  Name, Number, OpenParen, CloseParen, OpenBrace, CloseBrace, Comma, Semicolon, Ampersand, Assign, Plus, Minus, Star, Less, Equals,
-  Var, Next, Know, Take, If, Else, While, Par, Try, Catch, Throw, Proc, Main, End,
+  Name,
+  Number,
+  OpenParen,
+  CloseParen,
+  OpenBrace,
+  CloseBrace,
+  Comma,
+  Semicolon,
+  Ampersand,
+  Assign,
+  Plus,
+  Minus,
+  Star,
+  Less,
+  Equals,
+  Var,
+  Next,
+  Know,
+  Take,
+  If,
+  Else,
+  While,
+  Par,
+  Try,
+  Catch,
+  Throw,
+  Proc,
+  Main,
+  End,
 }
 use Rattle.reader.specs.Tokens.{Lexeme, Class, name, number, fixed, finish}
 

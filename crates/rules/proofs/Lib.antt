@@ -8,5 +8,7 @@ pub mod Cells
 pub mod Stable
 pub mod Diamonds
 pub mod Invariant
+pub mod Numbers
+pub mod Reached
 pub mod Runs
 pub mod Decide

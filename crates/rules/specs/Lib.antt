@@ -8,7 +8,14 @@ pub mod Permissions
 pub mod Effects
 pub mod Steps
 pub mod Moves
-pub mod Invariants
-pub mod Runs
 pub mod Tests
-pub mod Theorems
+pub mod Names
+pub mod Listings
+pub mod Answers
+pub mod Choices
+pub mod Invariants
+pub mod Numbers
+pub mod Runs
+pub mod Safety
+pub mod Decisions
+pub mod Confluence

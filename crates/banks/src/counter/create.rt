@@ -11,6 +11,10 @@ impl Counter {
         ensures fields { λ r. ⌜ r .next ≡ start ⌝ ∗ ⌜ r .stride ≡ stride ⌝ ∗ ⌜ r .count ≡ count ⌝ }
         ensures words { λ r. ⌜ ((p : ℕ) → counter .words r p ≡ counter-words start stride count p) ⌝ }
     {
-        Counter { next: start, stride, count }
+        Counter {
+            next: start,
+            stride,
+            count,
+        }
     }
 }

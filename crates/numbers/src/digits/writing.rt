@@ -1,13 +1,27 @@
 // Numbers in decimal.
 ghost use mathlib.Core.Path.{_≡_};
 ghost use mathlib.Core.List.{_∷_};
-ghost use Prim.Native.Nat.{_≤_};
+ghost use Prim.Native.Nat.{_<_, _≤_};
 ghost use lib.ListN.{length};
 ghost use Rattle.std.specs.Written.{decimal};
+ghost use Rattle.std.specs.declared.option.Option.the-variants.{Some, None};
 ghost use Rattle.numbers.specs.Texts.{shown};
 use crate::digits::Digits;
 
 impl Digits {
+    // The written form that is these bytes; none where they are more than 11.
+    pub fn from_bytes(text: &[u8]) -> Option<Digits>
+        ensures { λ r. ⌜ elim r [ Some d ↦ shown d ≡ now (text .entry) | None ↦ 11 < length (now (text .entry)) ] ⌝ }
+    {
+        if text.len() > 11 {
+            return None;
+        }
+        let mut bytes = [0; 11];
+        let from = 11 - text.len();
+        bytes[from..].copy_from_slice(text);
+        Some(Digits { bytes, from })
+    }
+
     // The written bytes.
     pub fn as_bytes(&self) -> &[u8]
         ensures bytes { λ r. ⌜ now r ≡ shown (now (self .entry)) ⌝ }

@@ -1,3 +1,4 @@
+use mathlib.Core.Path.{refl}
 use Rattle.numbers.proofs.Packs.{pack-packed, unpack-pack, unpack-below, pack-unpack}
 use Rattle.numbers.proofs.Readings.{sums-wrap, differences-wrap, products-wrap, exact-in-range}
 use Rattle.numbers.proofs.laws.readings_correspond.Needs as need
@@ -10,4 +11,5 @@ returns c = record {
   exact = exact-in-range;
   packs = λ n h. (pack-packed 8 n, unpack-pack 8 n h);
   unpacks = λ w h. (unpack-below 8 w h, pack-unpack 8 w h);
+  ends = (refl, refl, refl, refl);
 }

@@ -17,10 +17,11 @@ returns-then-digit-lt48 c =
 pub loop-i-again : need.loop-i-again
 loop-i-again c =
     let ds = c .args .digits .now in
-    let d = getD ds (c .loop-i .i) 0 in
-    (value-grows (c .loop-i .value) (d - 48) (c .loop-i .i) (omega arith) (omega arith),
-     omega arith,
-     c .loop-i .inv .2 ∙ read-digit (c .loop-i .value) (c .loop-i .i) ds (omega arith) (omega arith) (omega arith))
+    let d = getD ds (c .loop-i .i) 0 in (
+      value-grows (c .loop-i .value) (d - 48) (c .loop-i .i) (omega arith) (omega arith),
+      omega arith,
+      c .loop-i .inv .2 ∙ read-digit (c .loop-i .value) (c .loop-i .i) ds (omega arith) (omega arith) (omega arith),
+    )
 
 pub returns : need.returns
 returns c = sym (c .loop-i .inv .2 ∙ read-done (c .loop-i .value) (c .loop-i .i) (c .args .digits .now) (omega arith))
