@@ -1,4 +1,3 @@
 pub mod Fit
-pub mod Listings
 pub mod Stms
 pub mod Views

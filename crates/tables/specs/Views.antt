@@ -1,4 +1,4 @@
--- The table of the rules that a program's tables stand for.
+-- The table and the moves of the rules that a program's tables and moves stand for.
 use mathlib.Core.Option.{Option, some, none}
 use Prim.Native.Nat.{ℕ}
 use lib.ListN.{getD}
@@ -6,6 +6,9 @@ use Rattle.std.specs.Of.Vec.{vec-items, vec-len}
 use Rattle.std.specs.declared.option.Option as std
 use Rattle.std.specs.declared.option.Option.the-variants.{Some, None}
 use Rattle.rules.specs.Programs.{Table}
+use Rattle.rules.specs.States.{Move, step, close, meet, poison}
+use Rattle.tables.specs.declared.moves.Move as enum
+use Rattle.tables.specs.declared.moves.Move.the-variants.{Step, Close, Meet, Poison}
 use Rattle.tables.specs.declared.tables.Tables.{Tables}
 use Rattle.tables.specs.Fit.{no-place, no-cell}
 use Rattle.tables.specs.Stms.{stm-at, after-at, place-at, catches-at, has-got}
@@ -30,3 +33,17 @@ table t =
 abbrev pub awaited : std.Option (ℕ × ℕ) → Option (ℕ × ℕ)
 awaited None = none
 awaited (Some d) = some d
+
+-- How many cells there are.
+abbrev pub cells-of : Tables → ℕ
+cells-of t = vec-len (t .cells)
+
+abbrev pub move : enum.Move → Move
+move (Step p) = step p
+move (Close p) = close p
+move (Meet h) = meet h
+move (Poison p h) = poison p h
+
+abbrev pub moved : std.Option enum.Move → Option Move
+moved None = none
+moved (Some m) = some (move m)

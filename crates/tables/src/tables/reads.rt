@@ -9,9 +9,9 @@ ghost use Rattle.std.specs.Options.{Cases as BySome};
 ghost use Rattle.rules.specs.Programs.{awaits, end};
 ghost use Rattle.rules.specs.Trees.{within};
 ghost use Rattle.rules.specs.Tests.{child};
-ghost use Rattle.tables.specs.Listings.{cells-of, moved, named-move, home-of, Exists, move};
+ghost use Rattle.rules.specs.Names.{named-move, is-home, Exists};
 ghost use Rattle.tables.specs.Stms.{stm, offset-at, name-at};
-ghost use Rattle.tables.specs.Views.{table, awaited};
+ghost use Rattle.tables.specs.Views.{table, awaited, cells-of, move, moved};
 use crate::moves::Move;
 use crate::rows::Point;
 use crate::stmt::Stmt;
@@ -82,14 +82,14 @@ impl Tables {
     // The move that a kind and two numbers name.
     pub fn move_of(&self, kind: u32, a: u32, b: u32) -> Option<Move>
         ensures is { λ r. ⌜ moved r ≡ named-move (table (now (self .entry))) (cells-of (now (self .entry))) kind a b ⌝ }
-        ensures exists { λ r. ⌜ found r (λ m. Exists (table (now (self .entry))) (move m)) ⌝ }
+        ensures exists { λ r. ⌜ found r (λ m. Exists (table (now (self .entry))) (cells-of (now (self .entry))) (move m)) ⌝ }
     {
         let p = a as usize;
         let placed = p < self.place_count();
         match kind {
             0 if placed && b == 0 => Some(Move::Step(p as u16)),
             1 if placed && b == 0 => Some(Move::Close(p as u16)),
-            2 if b == 0 && self.is_home(p) => Some(Move::Meet(p as u16)),
+            2 if self.is_home(p) && b == 0 => Some(Move::Meet(p as u16)),
             3 if placed && self.is_home(b as usize) => Some(Move::Poison(p as u16, b as u16)),
             _ => None,
         }
@@ -97,8 +97,9 @@ impl Tables {
 
     // Whether a number is a home of the board.
     pub fn is_home(&self, h: usize) -> bool
-        ensures is { λ r. ⌜ r ≡ home-of (table (now (self .entry))) (cells-of (now (self .entry))) h ⌝ }
+        ensures is { λ r. ⌜ r ≡ is-home (table (now (self .entry))) (cells-of (now (self .entry))) h ⌝ }
         ensures few { λ r. ⌜ (r ≡ true → h < 128) ⌝ }
+        ensures own { λ r. ⌜ (r ≡ true → (h < cells-of (now (self .entry))) × (table (now (self .entry)) .home h ≡ h)) ⌝ }
     {
         h < self.cell_count() && self.home(h) == h
     }
