@@ -12,3 +12,12 @@ pub mod Numbers
 pub mod Reached
 pub mod Runs
 pub mod Decide
+pub mod Lists
+pub mod Listed
+pub mod Names
+pub mod Verdicts
+pub mod Looks
+pub mod Granting
+pub mod Chosen
+pub mod Checked
+pub mod Denied

@@ -19,3 +19,8 @@ pub mod Runs
 pub mod Safety
 pub mod Decisions
 pub mod Confluence
+pub mod ListingLaws
+pub mod GrantLaws
+pub mod Cases
+pub mod Boards
+pub mod Denials
