@@ -8,23 +8,15 @@ use native.Mathlib.Omega.{arith}
 use lib.Dec.{eqb}
 use lib.ListN.{length, getD}
 use Rattle.std.specs.Of.Vec.{vec-items}
-use Rattle.std.specs.declared.option.Option.the-variants.{Some, None}
 use Rattle.std.proofs.shelf.Lists.{getD-read}
 use Rattle.rules.specs.Programs.{end, awaits, goto, throw}
 use Rattle.tables.specs.declared.stmt.Stmt.{Stmt}
 use Rattle.tables.specs.declared.stmt.Stmt.the-variants.{End, Var, Set, Know, Next, Call, Test, Try, Take, Par, Goto, Throw}
 use Rattle.tables.specs.declared.rows.Point.{Point}
-use Rattle.tables.specs.declared.rows.Cell.{Cell}
 use Rattle.tables.specs.declared.rows.Got.{Got}
-use Rattle.tables.specs.Stms.{stm, stm-at, after-at, catches-at, offset-at, name-at, got-is, no-got}
+use Rattle.tables.specs.Stms.{stm, RowAt, PastRows, got-is, no-got}
 
-pub record Read (ps : List Point) (i : ℕ) (p : Point) : Type 0 where
-  pub stm-is : stm-at ps i ≡ stm (p .place) (p .stmt)
-  pub after-is : after-at ps i ≡ p .after
-  pub catches-is : catches-at ps i ≡ vec-items (p .catches)
-  pub offset-is : offset-at ps i ≡ p .offset
-
-pub read : (ps : List Point) (i : ℕ) (p : Point) → i < length ps → p ≡ getD ps i p → Read ps i p
+pub read : (ps : List Point) (i : ℕ) (p : Point) → i < length ps → p ≡ getD ps i p → RowAt ps i p
 read [] i p h e = absurd (omega arith)
 read (x ∷ ps) zero p h e =
     record {
@@ -37,13 +29,7 @@ read (x ∷ ps) (suc i) p h e =
     let r = read ps i p (omega arith) e in
     record { stm-is = r .stm-is; after-is = r .after-is; catches-is = r .catches-is; offset-is = r .offset-is }
 
-pub record Past (ps : List Point) (i : ℕ) : Type 0 where
-  pub stm-is : stm-at ps i ≡ end
-  pub after-is : after-at ps i ≡ 0
-  pub catches-is : catches-at ps i ≡ []
-  pub offset-is : offset-at ps i ≡ 0
-
-pub past : (ps : List Point) (i : ℕ) → length ps ≤ i → Past ps i
+pub past : (ps : List Point) (i : ℕ) → length ps ≤ i → PastRows ps i
 past [] i h = record { stm-is = refl; after-is = refl; catches-is = refl; offset-is = refl }
 past (x ∷ ps) zero h = absurd (omega arith)
 past (x ∷ ps) (suc i) h =
@@ -71,13 +57,3 @@ not-next q (Throw g k y) n = either (eqb g q)
 
 pub got-at : (gs : List Got) (i : ℕ) (g : Got) (q h : ℕ) → i < length gs → g ≡ getD gs i g → got-is (getD gs i no-got) q h ≡ got-is g q h
 got-at gs i g q h l e = ap (λ (v : Got). got-is v q h) (sym (getD-read gs i g l e no-got))
-
-pub name-there : (ds : List Cell) (c : ℕ) (d : Cell) → c < length ds → d ≡ getD ds c d → name-at ds c ≡ Some (d .at, d .len)
-name-there [] c d h e = absurd (omega arith)
-name-there (x ∷ ds) zero d h e = ap (λ (v : Cell). Some (v .at, v .len)) (sym e)
-name-there (x ∷ ds) (suc c) d h e = name-there ds c d (omega arith) e
-
-pub name-past : (ds : List Cell) (c : ℕ) → length ds ≤ c → name-at ds c ≡ None
-name-past [] c h = refl
-name-past (x ∷ ds) zero h = absurd (omega arith)
-name-past (x ∷ ds) (suc c) h = name-past ds c (omega arith)

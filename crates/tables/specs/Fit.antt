@@ -12,7 +12,7 @@ use Rattle.rules.specs.Programs.{Expr, own, word, plus, minus, times, below, sa
 use Rattle.tables.specs.declared.rows.Point.{Point}
 use Rattle.tables.specs.declared.rows.Place.{Place}
 use Rattle.tables.specs.declared.rows.Cell.{Cell}
-use Rattle.tables.specs.Stms.{stm-at}
+use Rattle.tables.specs.Stms.{stm-at, no-cell}
 
 -- An expression names cells of the array.
 abbrev pub in-cells : Expr → Bool
@@ -47,12 +47,9 @@ named (par bs cs) = places-in bs && copies-in cs
 named (goto y) = true
 named (throw g j) = ltb g 64
 
--- the rows that stand past the ends
+-- the row that stands past the last place
 abbrev pub no-place : Place
 no-place = record { parent = 0; under = 0; start = 0 }
-
-abbrev pub no-cell : Cell
-no-cell = record { home = 0; declarer = 0; at = 0; len = 0 }
 
 abbrev pub parents : List Place → ℕ → ℕ
 parents xs q = getD xs q no-place .parent

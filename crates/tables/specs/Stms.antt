@@ -1,8 +1,9 @@
 -- The code's expressions, statements and points as those of the rules.
+use mathlib.Core.Path.{_≡_}
 use mathlib.Core.List.{List, [], _∷_}
 use mathlib.Core.Bool.{Bool, true, false, cond, _&&_}
 use Prim.Native.Nat.{ℕ, zero, suc}
-use lib.Dec.{eqb}
+use lib.Dec.{eqb, ltb}
 use lib.ListN.{length, getD}
 use Rattle.std.specs.Of.Vec.{vec-items}
 use Rattle.std.specs.declared.option.Option.{Option}
@@ -73,11 +74,26 @@ offset-at [] x = 0
 offset-at (p ∷ ps) zero = p .offset
 offset-at (p ∷ ps) (suc x) = offset-at ps x
 
--- Where the recorded name of a cell stands in the text.
-abbrev pub name-at : List Cell → ℕ → Option (ℕ × ℕ)
-name-at [] c = None
-name-at (d ∷ ds) zero = Some (d .at, d .len)
-name-at (d ∷ ds) (suc c) = name-at ds c
+-- The row p stands at the point i.
+pub record RowAt (ps : List Point) (i : ℕ) (p : Point) : Type 0 where
+  pub stm-is : stm-at ps i ≡ stm (p .place) (p .stmt)
+  pub after-is : after-at ps i ≡ p .after
+  pub catches-is : catches-at ps i ≡ vec-items (p .catches)
+  pub offset-is : offset-at ps i ≡ p .offset
+
+-- The point i is past the last row.
+pub record PastRows (ps : List Point) (i : ℕ) : Type 0 where
+  pub stm-is : stm-at ps i ≡ end
+  pub after-is : after-at ps i ≡ 0
+  pub catches-is : catches-at ps i ≡ []
+  pub offset-is : offset-at ps i ≡ 0
+
+abbrev pub no-cell : Cell
+no-cell = record { home = 0; declarer = 0; at = 0; len = 0 }
+
+-- Where the recorded name of a cell stands in the text; a number past the last cell has none.
+abbrev pub recorded : List Cell → ℕ → Option (ℕ × ℕ)
+recorded ds c = cond (ltb c (length ds)) (Some (getD ds c no-cell .at, getD ds c no-cell .len)) None
 
 abbrev pub no-got : Got
 no-got = record { place = 0; home = 0 }

@@ -10,8 +10,8 @@ use Rattle.rules.specs.States.{Move, step, close, meet, poison}
 use Rattle.tables.specs.declared.moves.Move as enum
 use Rattle.tables.specs.declared.moves.Move.the-variants.{Step, Close, Meet, Poison}
 use Rattle.tables.specs.declared.tables.Tables.{Tables}
-use Rattle.tables.specs.Fit.{no-place, no-cell}
-use Rattle.tables.specs.Stms.{stm-at, after-at, place-at, catches-at, has-got}
+use Rattle.tables.specs.Fit.{no-place}
+use Rattle.tables.specs.Stms.{stm-at, after-at, place-at, catches-at, has-got, no-cell}
 
 abbrev pub table : Tables → Table
 table t =

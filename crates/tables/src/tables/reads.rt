@@ -6,18 +6,60 @@ ghost use lib.ListN.{length, getD};
 ghost use Rattle.std.specs.Of.Vec.{vec-items, vec-len};
 ghost use Rattle.std.specs.Slices.{found};
 ghost use Rattle.std.specs.Options.{Cases as BySome};
-ghost use Rattle.rules.specs.Programs.{awaits, end};
+ghost use Rattle.rules.specs.Programs.{awaits};
 ghost use Rattle.rules.specs.Trees.{within};
 ghost use Rattle.rules.specs.Tests.{child};
 ghost use Rattle.rules.specs.Names.{named-move, is-home, Exists};
-ghost use Rattle.tables.specs.Stms.{stm, offset-at, name-at};
+ghost use Rattle.tables.specs.Fit.{no-place};
+ghost use Rattle.tables.specs.Stms.{stm, offset-at, no-cell, recorded, RowAt, PastRows};
 ghost use Rattle.tables.specs.Views.{table, awaited, cells-of, move, moved};
 use crate::moves::Move;
+use crate::rows::Cell;
+use crate::rows::Place;
 use crate::rows::Point;
 use crate::stmt::Stmt;
 use crate::tables::Tables;
 
+// The item at an index, or 0.
+fn item_or_zero(list: &[u16], j: usize) -> u16
+    ensures { λ r. ⌜ r ≡ getD (now (list .entry)) j 0 ⌝ }
+{
+    if j < list.len() { list[j] } else { 0 }
+}
+
+// The own cell and the home of a next.
+fn next_of(stmt: &Stmt) -> Option<(u16, u16)>
+    ensures { λ r. ⌜ ((q : ℕ) → awaited r ≡ awaits (stm q (now (stmt .entry)))) ⌝ }
+{
+    match stmt {
+        Stmt::Next(c, h) => Some((*c, *h)),
+        _ => None,
+    }
+}
+
 impl Tables {
+    // The row of a place; past the last one a row of zeros.
+    fn place_row(&self, q: usize) -> Place
+        ensures { λ r. ⌜ r ≡ getD (vec-items (now (self .entry) .places)) q no-place ⌝ }
+    {
+        if q < self.places.len() { self.places[q] } else { Place { parent: 0, under: 0, start: 0 } }
+    }
+
+    // The row of a cell; past the last one a row of zeros.
+    fn cell_row(&self, c: usize) -> Cell
+        ensures { λ r. ⌜ r ≡ getD (vec-items (now (self .entry) .cells)) c no-cell ⌝ }
+    {
+        if c < self.cells.len() { self.cells[c] } else { Cell { home: 0, declarer: 0, at: 0, len: 0 } }
+    }
+
+    // The row of a point that there is.
+    fn point_row(&self, i: usize) -> &Point
+        requires { ⌜ i < vec-len (now self .points) ⌝ }
+        ensures { λ r. ⌜ RowAt (vec-items (now (self .entry) .points)) i (now r) ⌝ }
+    {
+        &self.points[i]
+    }
+
     // How many places there are.
     pub fn place_count(&self) -> usize
         ensures is { λ r. ⌜ r ≡ table (now (self .entry)) .places ⌝ }
@@ -32,11 +74,14 @@ impl Tables {
         ensures is { λ r. ⌜ r ≡ table (now (self .entry)) .parent q ⌝ }
         ensures low { λ r. ⌜ (0 < q → r < q) ⌝ }
     {
-        if q < self.places.len() {
-            self.places[q].parent as usize
-        } else {
-            0
-        }
+        self.place_row(q).parent as usize
+    }
+
+    // The first point of a place.
+    pub fn start(&self, q: usize) -> u16
+        ensures { λ r. ⌜ r ≡ table (now (self .entry)) .start q ⌝ }
+    {
+        self.place_row(q).start
     }
 
     // Whether `q` is a child of `p`.
@@ -60,15 +105,17 @@ impl Tables {
         true
     }
 
-    // The first point of a place.
-    pub fn start(&self, q: usize) -> u16
-        ensures { λ r. ⌜ r ≡ table (now (self .entry)) .start q ⌝ }
+    // Whether a place got a variable of a home at its start, and so knows it.
+    pub fn knows(&self, q: usize, h: usize) -> bool
+        ensures { λ r. ⌜ r ≡ table (now (self .entry)) .knows q h ⌝ }
     {
-        if q < self.places.len() {
-            self.places[q].start
-        } else {
-            0
+        for i in 0..self.got.len() {
+            let g = self.got[i];
+            if g.place as usize == q && g.home as usize == h {
+                return true;
+            }
         }
+        false
     }
 
     // How many cells there are.
@@ -77,6 +124,42 @@ impl Tables {
         ensures few { λ r. ⌜ r ≤ 128 ⌝ }
     {
         self.cells.len()
+    }
+
+    // The home of a cell.
+    pub fn home(&self, c: usize) -> usize
+        ensures { λ r. ⌜ r ≡ table (now (self .entry)) .home c ⌝ }
+    {
+        self.cell_row(c).home as usize
+    }
+
+    // The place that declared a cell.
+    pub fn declarer(&self, c: usize) -> usize
+        ensures is { λ r. ⌜ r ≡ table (now (self .entry)) .declarer c ⌝ }
+        ensures placed { λ r. ⌜ r < table (now (self .entry)) .places ⌝ }
+    {
+        self.cell_row(c).declarer as usize
+    }
+
+    // Where the recorded name of a cell stands in the text: its first byte and its length.
+    pub fn recorded_name(&self, c: usize) -> Option<(usize, usize)>
+        ensures { λ r. ⌜ r ≡ recorded (vec-items (now (self .entry) .cells)) c ⌝ }
+    {
+        if c < self.cells.len() {
+            let cell = self.cell_row(c);
+            Some((cell.at, cell.len))
+        } else {
+            None
+        }
+    }
+
+    // Whether a number is a home of the board.
+    pub fn is_home(&self, h: usize) -> bool
+        ensures is { λ r. ⌜ r ≡ is-home (table (now (self .entry))) (cells-of (now (self .entry))) h ⌝ }
+        ensures few { λ r. ⌜ (r ≡ true → h < 128) ⌝ }
+        ensures own { λ r. ⌜ (r ≡ true → (h < cells-of (now (self .entry))) × (table (now (self .entry)) .home h ≡ h)) ⌝ }
+    {
+        h < self.cell_count() && self.home(h) == h
     }
 
     // The move that a kind and two numbers name.
@@ -95,59 +178,21 @@ impl Tables {
         }
     }
 
-    // Whether a number is a home of the board.
-    pub fn is_home(&self, h: usize) -> bool
-        ensures is { λ r. ⌜ r ≡ is-home (table (now (self .entry))) (cells-of (now (self .entry))) h ⌝ }
-        ensures few { λ r. ⌜ (r ≡ true → h < 128) ⌝ }
-        ensures own { λ r. ⌜ (r ≡ true → (h < cells-of (now (self .entry))) × (table (now (self .entry)) .home h ≡ h)) ⌝ }
+    // The row of a point; past the last one stands an end, with nothing after it.
+    pub fn point(&self, x: u16) -> Option<&Point>
+        ensures { λ r. ⌜ BySome r (PastRows (vec-items (now (self .entry) .points)) x) (λ p. RowAt (vec-items (now (self .entry) .points)) x (now p)) ⌝ }
     {
-        h < self.cell_count() && self.home(h) == h
-    }
-
-    // The home of a cell.
-    pub fn home(&self, c: usize) -> usize
-        ensures { λ r. ⌜ r ≡ table (now (self .entry)) .home c ⌝ }
-    {
-        if c < self.cells.len() {
-            self.cells[c].home as usize
-        } else {
-            0
-        }
-    }
-
-    // The place that declared a cell.
-    pub fn declarer(&self, c: usize) -> usize
-        ensures is { λ r. ⌜ r ≡ table (now (self .entry)) .declarer c ⌝ }
-        ensures placed { λ r. ⌜ r < table (now (self .entry)) .places ⌝ }
-    {
-        if c < self.cells.len() {
-            self.cells[c].declarer as usize
-        } else {
-            0
-        }
-    }
-
-    // Where the name of a cell stands in the text: its first byte and its length.
-    pub fn recorded_name(&self, c: usize) -> Option<(usize, usize)>
-        ensures { λ r. ⌜ r ≡ name-at (vec-items (now (self .entry) .cells)) c ⌝ }
-    {
-        if c < self.cells.len() {
-            let cell = self.cells[c];
-            Some((cell.at, cell.len))
-        } else {
-            None
-        }
+        let i = x as usize;
+        if i < self.points.len() { Some(self.point_row(i)) } else { None }
     }
 
     // The point after the statement at a point.
     pub fn after(&self, x: u16) -> u16
         ensures { λ r. ⌜ r ≡ table (now (self .entry)) .after x ⌝ }
     {
-        let x = x as usize;
-        if x < self.points.len() {
-            self.points[x].after
-        } else {
-            0
+        match self.point(x) {
+            Some(point) => point.after,
+            None => 0,
         }
     }
 
@@ -155,11 +200,9 @@ impl Tables {
     pub fn offset(&self, x: u16) -> usize
         ensures { λ r. ⌜ r ≡ offset-at (vec-items (now (self .entry) .points)) x ⌝ }
     {
-        let x = x as usize;
-        if x < self.points.len() {
-            self.points[x].offset
-        } else {
-            0
+        match self.point(x) {
+            Some(point) => point.offset,
+            None => 0,
         }
     }
 
@@ -167,37 +210,10 @@ impl Tables {
     pub fn catch_block(&self, x: u16, j: usize) -> u16
         ensures { λ r. ⌜ r ≡ getD (table (now (self .entry)) .catches x) j 0 ⌝ }
     {
-        let x = x as usize;
-        if x >= self.points.len() {
-            return 0;
+        match self.point(x) {
+            Some(point) => item_or_zero(point.catches.as_slice(), j),
+            None => 0,
         }
-        let blocks = self.points[x].catches.as_slice();
-        if j < blocks.len() { blocks[j] } else { 0 }
-    }
-
-    // The row of a point; past the last one stands an end.
-    pub fn point(&self, x: u16) -> Option<&Point>
-        ensures { λ r. ⌜ BySome r (table (now (self .entry)) .stm x ≡ end) (λ s. table (now (self .entry)) .stm x ≡ stm (now s .place) (now s .stmt)) ⌝ }
-    {
-        let x = x as usize;
-        if x < self.points.len() {
-            Some(&self.points[x])
-        } else {
-            None
-        }
-    }
-
-    // Whether a place got a variable of a home at its start, and so knows it.
-    pub fn knows(&self, q: usize, h: usize) -> bool
-        ensures { λ r. ⌜ r ≡ table (now (self .entry)) .knows q h ⌝ }
-    {
-        for i in 0..self.got.len() {
-            let g = self.got[i];
-            if g.place as usize == q && g.home as usize == h {
-                return true;
-            }
-        }
-        false
     }
 
     // The own cell and the home of the next at a point, if one stands there.
@@ -205,13 +221,9 @@ impl Tables {
         ensures is { λ r. ⌜ awaited r ≡ awaits (table (now (self .entry)) .stm x) ⌝ }
         ensures named { λ r. ⌜ found r (λ d. d .0 < 128) ⌝ }
     {
-        let x = x as usize;
-        if x >= self.points.len() {
-            return None;
-        }
-        match &self.points[x].stmt {
-            Stmt::Next(c, h) => Some((*c, *h)),
-            _ => None,
+        match self.point(x) {
+            Some(point) => next_of(&point.stmt),
+            None => None,
         }
     }
 }

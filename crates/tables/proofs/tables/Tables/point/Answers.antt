@@ -1,10 +1,7 @@
 use native.Mathlib.Omega.{arith}
 use Rattle.std.specs.Of.Vec.{vec-items}
-use Rattle.tables.proofs.Reading.{read, past}
+use Rattle.tables.proofs.Reading.{past}
 use Rattle.tables.proofs.tables.Tables.point.Needs as need
 
-pub returns-then-x-len : need.returns-then-x-len
-returns-then-x-len c = read (vec-items (c .args .self .now .points)) (c .args .x) _ (omega arith) (c .index .ensures) .stm-is
-
-pub returns-else-x-len : need.returns-else-x-len
-returns-else-x-len c = past (vec-items (c .args .self .now .points)) (c .args .x) (omega arith) .stm-is
+pub returns-else-i-len : need.returns-else-i-len
+returns-else-i-len c = past (vec-items (c .args .self .now .points)) (c .args .x) (omega arith)
