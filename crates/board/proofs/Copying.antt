@@ -22,7 +22,7 @@ use Rattle.board.specs.declared.state.Local.the-variants.{Running}
 use Rattle.tables.specs.Stms.{copies}
 use Rattle.tables.specs.Fit.{copies-in, places-in}
 use Rattle.board.specs.Views.{idle-place}
-use Rattle.board.specs.Effects.{copied, forked, observed-by, met-cell}
+use Rattle.board.specs.Effects.{copied, started, forked, observed-by, met-cell}
 use Rattle.tables.proofs.Counts.{any-step}
 
 abbrev pub no-copy : Copied
@@ -78,10 +78,6 @@ copied-is old (c ∷ cs) n h d =
         ≡ Option·getD (Option·map (λ c. getD old c 0) (cond b (some (c .from)) (pick (copies cs) d))) (getD old d 0)
     over true = refl
     over false = refl
-
--- a place that runs from its start
-abbrev pub started : (ℕ → ℕ) → ℕ → PlaceState → PlaceState
-started start q x = record { at = Running (start q); mark = x .mark; steps = x .steps }
 
 pub length-forked : (start : ℕ → ℕ) (ps : List PlaceState) (bs : List ℕ) → length (forked start ps bs) ≡ length ps
 length-forked start ps [] = refl

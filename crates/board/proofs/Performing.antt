@@ -23,8 +23,8 @@ use Rattle.board.specs.declared.state.PlaceState.{PlaceState}
 use Rattle.board.specs.declared.state.State.{State}
 use Rattle.tables.specs.Fit.{places-in}
 use Rattle.board.specs.Views.{idle-place, local, marked, place}
-use Rattle.board.specs.Effects.{PlaceAfter, After, Shaped, MayMove, stepped, with-cells, with-places, forked}
-use Rattle.board.proofs.Copying.{getD-set, forked-is, length-forked, started}
+use Rattle.board.specs.Effects.{PlaceAfter, After, Shaped, MayMove, stepped, with-cells, with-places, started, forked}
+use Rattle.board.proofs.Copying.{getD-set, forked-is, length-forked}
 
 -- a state whose places and cells were changed, and then one place written
 abbrev rebuilt : State → List PlaceState → List ℕ → State

@@ -15,21 +15,25 @@ use Rattle.board.specs.declared.state.Local.the-variants.{Running}
 use Rattle.board.specs.declared.state.PlaceState.{PlaceState}
 use Rattle.board.specs.declared.state.State.{State}
 use Rattle.board.specs.Views.{idle-place, local, marked, place, view}
-use Rattle.board.specs.Effects.{Shaped, Bounded}
+use Rattle.board.specs.Effects.{Bounded, started}
 
 same : {A : Type 0} (n : ℕ) (d : A) (q : ℕ) → getD (replicate n d) q d ≡ d
 same zero d q = refl
 same (suc n) d zero = refl
 same (suc n) d (suc q) = same n d q
 
-abbrev pub begun : ℕ → State
-begun x =
+-- place 0 stands so, and all else is at rest
+abbrev pub begun-with : PlaceState → State
+begun-with x =
     record {
-      places = set (replicate 64 idle-place) 0 (record { at = Running x; mark = None; steps = 0 });
+      places = set (replicate 64 idle-place) 0 x;
       cells = replicate 128 0;
       meets = replicate 128 0;
       total = 0;
     }
+
+abbrev begun : ℕ → State
+begun x = begun-with (record { at = Running x; mark = None; steps = 0 })
 
 at-begun : (x q : ℕ) → local (place (begun x) q .at) ≡ cond (eqb q 0) (running x) idle
 at-begun x zero = refl
@@ -45,7 +49,7 @@ steps-begun : (x q : ℕ) → place (begun x) q .steps ≡ 0
 steps-begun x zero = refl
 steps-begun x (suc q) = ap (λ (v : PlaceState). v .steps) (same 63 idle-place q)
 
-pub view-begun : (t : Table) (x : ℕ) → x ≡ t .start 0 → (ws : ℕ → List ℕ) → view (begun x) ws ≡ powered t ws
+view-begun : (t : Table) (x : ℕ) → x ≡ t .start 0 → (ws : ℕ → List ℕ) → view (begun x) ws ≡ powered t ws
 view-begun t x e ws =
     λ i. record {
       at = fun-ext (λ q. at-begun x q ∙ ap (λ v. cond (eqb q 0) (running v) idle) e) i;
@@ -57,5 +61,12 @@ view-begun t x e ws =
       total = 0;
     }
 
-pub counted-begun : (x : ℕ) → Bounded (begun x)
-counted-begun x = ((λ q. let e = steps-begun x q in omega arith), λ h. let e : getD (begun x .meets) h 0 ≡ 0 = same {A = ℕ} 128 0 h in omega arith)
+bounded-begun : (x : ℕ) → Bounded (begun x)
+bounded-begun x = ((λ q. let e = steps-begun x q in omega arith), λ h. let e : getD (begun x .meets) h 0 ≡ 0 = same {A = ℕ} 128 0 h in omega arith)
+
+module _ (t : Table) (x : PlaceState) (e : x ≡ started (t .start) 0 idle-place) where
+  pub view-at-power : (ws : ℕ → List ℕ) → view (begun-with x) ws ≡ powered t ws
+  view-at-power ws = ap (λ (v : PlaceState). view (begun-with v) ws) e ∙ view-begun t (t .start 0) refl ws
+
+  pub bounded-at-power : Bounded (begun-with x)
+  bounded-at-power = subst (λ (v : PlaceState). Bounded (begun-with v)) (sym e) (bounded-begun (t .start 0))

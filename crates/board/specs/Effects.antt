@@ -71,12 +71,14 @@ abbrev pub copied : List ℕ → List Copied → List ℕ
 copied old [] = old
 copied old (c ∷ cs) = set (copied old cs) (c .to) (getD old (c .from) 0)
 
+-- A place that runs from its start.
+abbrev pub started : (ℕ → ℕ) → ℕ → PlaceState → PlaceState
+started start q x = record { at = Running (start q); mark = x .mark; steps = x .steps }
+
 -- Places with the branches at their starts.
 abbrev pub forked : (ℕ → ℕ) → List PlaceState → List ℕ → List PlaceState
 forked start ps [] = ps
-forked start ps (b ∷ bs) =
-    let x = getD ps b idle-place in
-    forked start (set ps b (record { at = Running (start b); mark = x .mark; steps = x .steps })) bs
+forked start ps (b ∷ bs) = forked start (set ps b (started start b (getD ps b idle-place))) bs
 
 abbrev pub is-cell : std.Option ℕ → ℕ → Bool
 is-cell None c = false

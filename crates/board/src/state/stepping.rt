@@ -4,13 +4,15 @@ ghost use mathlib.Core.Bool.{true};
 ghost use mathlib.Core.List.{List};
 ghost use mathlib.Core.Option.{none};
 ghost use Prim.Native.Nat.{ℕ, _≤_, _<_};
+ghost use lib.ListN.{getD, set};
 ghost use Rattle.rules.specs.Programs.{awaits};
+ghost use Rattle.rules.specs.Values.{value};
 ghost use Rattle.rules.specs.States.{step};
 ghost use Rattle.rules.specs.Steps.{step-effect};
 ghost use Rattle.rules.specs.Moves.{effect};
 ghost use Rattle.rules.specs.Tests.{permitted};
-ghost use Rattle.tables.specs.Stms.{stm, copies};
-ghost use Rattle.tables.specs.Fit.{copies-in, places-in, named};
+ghost use Rattle.tables.specs.Stms.{expr, stm, copies};
+ghost use Rattle.tables.specs.Fit.{in-cells, copies-in, places-in, named};
 ghost use Rattle.tables.specs.Views.{table};
 ghost use Rattle.board.specs.Views.{place, portless, view};
 ghost use Rattle.board.specs.Effects.{After, MayMove, stepped, with-cells, with-places, copied, forked, acted, act-words, effect-words};
@@ -18,8 +20,10 @@ use crate::eval::value;
 use crate::state::Local;
 use crate::state::PlaceState;
 use crate::state::State;
+use crate::state::power::started;
 use banks::bank::Bank;
 use numbers::kind::NumberKind;
+use tables::expr::Expr;
 use tables::rows::Point;
 use tables::stmt::Copied;
 use tables::stmt::Stmt;
@@ -42,6 +46,16 @@ impl State {
         self.total += 1;
     }
 
+    // Cell `c` gets the value of an expression.
+    fn assign<K: NumberKind>(&mut self, kind: &K, c: usize, e: &Expr)
+        requires inside { ⌜ c < 128 ⌝ }
+        requires named { ⌜ in-cells (expr (now e)) ≡ true ⌝ }
+        ensures { λ _. ⌜ now (self .exit) ≡ with-cells (now (self .entry)) (set (now (self .entry) .cells) c (value (K·NumberKind .meaning) (λ i. getD (now (self .entry) .cells) i 0) (expr (now (e .entry))))) ⌝ }
+    {
+        let word = value(kind, e, &self.cells);
+        self.cells[c] = word;
+    }
+
     // New cells get the words of others, as they were before; backward, since the first copy for a cell counts.
     fn copy(&mut self, list: &[Copied])
         requires { ⌜ copies-in (copies (now list)) ≡ true ⌝ }
@@ -61,12 +75,8 @@ impl State {
     {
         for b in branches {
             let q = *b as usize;
-            let old = self.places[q];
-            self.places[q] = PlaceState {
-                at: Local::Running(t.start(q)),
-                mark: old.mark,
-                steps: old.steps,
-            };
+            let new = started(t, q, self.places[q]);
+            self.places[q] = new;
         }
     }
 
@@ -94,8 +104,7 @@ impl State {
                 self.step_to(p, Local::Running(t.after(x)));
             }
             Stmt::Set(c, e) => {
-                let word = value(kind, e, &self.cells);
-                self.cells[*c as usize] = word;
+                self.assign(kind, *c as usize, e);
                 self.step_to(p, Local::Running(t.after(x)));
             }
             Stmt::Know => self.step_to(p, Local::Running(t.after(x))),

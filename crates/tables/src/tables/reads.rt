@@ -42,14 +42,31 @@ impl Tables {
     fn place_row(&self, q: usize) -> Place
         ensures { λ r. ⌜ r ≡ getD (vec-items (now (self .entry) .places)) q no-place ⌝ }
     {
-        if q < self.places.len() { self.places[q] } else { Place { parent: 0, under: 0, start: 0 } }
+        if q < self.places.len() {
+            self.places[q]
+        } else {
+            Place {
+                parent: 0,
+                under: 0,
+                start: 0,
+            }
+        }
     }
 
     // The row of a cell; past the last one a row of zeros.
     fn cell_row(&self, c: usize) -> Cell
         ensures { λ r. ⌜ r ≡ getD (vec-items (now (self .entry) .cells)) c no-cell ⌝ }
     {
-        if c < self.cells.len() { self.cells[c] } else { Cell { home: 0, declarer: 0, at: 0, len: 0 } }
+        if c < self.cells.len() {
+            self.cells[c]
+        } else {
+            Cell {
+                home: 0,
+                declarer: 0,
+                at: 0,
+                len: 0,
+            }
+        }
     }
 
     // The row of a point that there is.
@@ -183,7 +200,11 @@ impl Tables {
         ensures { λ r. ⌜ BySome r (PastRows (vec-items (now (self .entry) .points)) x) (λ p. RowAt (vec-items (now (self .entry) .points)) x (now p)) ⌝ }
     {
         let i = x as usize;
-        if i < self.points.len() { Some(self.point_row(i)) } else { None }
+        if i < self.points.len() {
+            Some(self.point_row(i))
+        } else {
+            None
+        }
     }
 
     // The point after the statement at a point.

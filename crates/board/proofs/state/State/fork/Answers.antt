@@ -4,9 +4,8 @@ use Prim.Native.Nat.{ℕ, _-_, _+_}
 use lib.ListN.{getD, set, length, drop}
 use Rattle.std.proofs.shelf.Lists.{at-drop-all, at-drop-more}
 use Rattle.board.specs.declared.state.State.{State}
-use Rattle.board.specs.declared.state.Local.the-variants.{Running}
+use Rattle.board.specs.declared.state.PlaceState.{PlaceState}
 use Rattle.tables.specs.Views.{table}
-use Rattle.board.specs.Views.{idle-place}
 use Rattle.board.specs.Effects.{with-places, forked}
 use Rattle.board.proofs.Copying.{places-at}
 use Rattle.board.proofs.state.State.fork.Needs as need
@@ -21,11 +20,10 @@ pub loop-b-again : need.loop-b-again
 loop-b-again c =
     let st = table (c .args .t .now) .start in
     let ps = c .loop-b .self .places in
-    let b = getD (c .args .branches .now) (c .loop-b .b-index) 0 in
-    let old = getD ps b idle-place in (
-      ap (λ (s : State). with-places s (set ps b (record { at = Running (c .start .result); mark = old .mark; steps = old .steps }))) (c .loop-b .inv .0),
+    let b = getD (c .args .branches .now) (c .loop-b .b-index) 0 in (
+      ap (λ (s : State). with-places s (set ps b (c .started-new .result))) (c .loop-b .inv .0),
       c .loop-b .inv .1 ∙ at-drop-more (forked st ps) (c .args .branches .now) (c .loop-b .b-index) 0 (omega arith)
-          ∙ ap (λ x. forked st (set ps b (record { at = Running x; mark = old .mark; steps = old .steps })) (drop (c .loop-b .b-index + 1) (c .args .branches .now))) (sym (c .start .ensures)),
+          ∙ ap (λ (v : PlaceState). forked st (set ps b v) (drop (c .loop-b .b-index + 1) (c .args .branches .now))) (sym (c .started-new .ensures)),
     )
 
 pub returns : need.returns

@@ -42,7 +42,7 @@ returns-in-Set g c =
     record {
       did =
           subst (λ (v : Stmt). After (step-effect t p (acted k t s ws x q v)) s (c .step-to-in-Set .last .self)) (sym (c .in-Set .is))
-          (subst (After (step-effect t p (acted k t s ws x q (Set d (c .in-Set .e)))) s) (sym (c .step-to-in-Set .ensures ∙ ap₂ (λ a w. stepped (with-cells s (set (s .cells) d w)) p (Running a)) (c .after-in-Set .ensures) (c .value-word .ensures)))
+          (subst (After (step-effect t p (acted k t s ws x q (Set d (c .in-Set .e)))) s) (sym (c .step-to-in-Set .ensures ∙ ap₂ (λ (u : State) a. stepped u p (Running a)) (c .assign .ensures) (c .after-in-Set .ensures)))
           (pass-after t p (t .after x) (only d v) never s (set (s .cells) d v) (c .pre .counts) (c .pre .inside) (length-set (s .cells) d v ∙ c .pre .counts .0 .1) (only-is (s .cells) d v l)));
       ports = λ i. sym (ap (λ (v : Stmt). act-words (acted k t s ws x q v) ws i) (c .in-Set .is));
     }
