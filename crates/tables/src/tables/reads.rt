@@ -11,10 +11,11 @@ ghost use Rattle.rules.specs.Trees.{within};
 ghost use Rattle.rules.specs.Tests.{child};
 ghost use Rattle.rules.specs.Names.{named-move, is-home, Exists};
 ghost use Rattle.tables.specs.Fit.{no-place};
-ghost use Rattle.tables.specs.Stms.{stm, offset-at, no-cell, recorded, RowAt, PastRows};
+ghost use Rattle.tables.specs.Stms.{stm, offset-at, no-cell, recorded, got-is, RowAt, PastRows};
 ghost use Rattle.tables.specs.Views.{table, awaited, cells-of, move, moved};
 use crate::moves::Move;
 use crate::rows::Cell;
+use crate::rows::Got;
 use crate::rows::Place;
 use crate::rows::Point;
 use crate::stmt::Stmt;
@@ -35,6 +36,13 @@ fn next_of(stmt: &Stmt) -> Option<(u16, u16)>
         Stmt::Next(c, h) => Some((*c, *h)),
         _ => None,
     }
+}
+
+// Whether a row says that place `q` got a variable of home `h`.
+fn is_got(g: Got, q: usize, h: usize) -> bool
+    ensures { λ r. ⌜ r ≡ got-is g q h ⌝ }
+{
+    g.place as usize == q && g.home as usize == h
 }
 
 impl Tables {
@@ -128,7 +136,7 @@ impl Tables {
     {
         for i in 0..self.got.len() {
             let g = self.got[i];
-            if g.place as usize == q && g.home as usize == h {
+            if is_got(g, q, h) {
                 return true;
             }
         }
