@@ -25,7 +25,7 @@ use Rattle.rules.specs.declared.answers.Stop.{Stop}
 use Rattle.rules.specs.declared.answers.Stop.the-variants.{Rest, Limit, End}
 use Rattle.calls.specs.Boards.{state-of}
 use Rattle.tables.specs.Views.{cells-of}
-use Rattle.calls.specs.Boards.{RunTells}
+use Rattle.calls.specs.Boards.{RunTells, last-stop}
 use Rattle.board.specs.declared.state.State as code
 use Rattle.tables.specs.declared.tables.Tables.{Tables}
 use Rattle.tables.specs.Views.{table}
@@ -51,9 +51,9 @@ module _ (k : Meaning) (t : Table) (m : ℕ) (s : State) where
   run-full [] ne full = ap (stopped s) (cond-false _ _ _ (ne-eqb _ 0 ne) ∙ cond-false _ _ _ (le-ltb _ _ full))
   run-full (c ∷ cs) ne full = cond-false _ _ _ (ne-eqb _ 0 ne) ∙ cond-false _ _ _ (le-ltb _ _ full)
 
-  pub run-end : (length (listing t s m) ≡ 0 → ⊥) → s .total < 1000000000 → run k t m s [] ≡ stopped s End
+  pub run-end : (e : Stop) → e ≡ last-stop t m s → run k t m s [] ≡ stopped s e
   unfolding run
-  run-end ne under = ap (stopped s) (cond-false _ _ _ (ne-eqb _ 0 ne) ∙ cond-true _ _ _ (lt-ltb _ _ under))
+  run-end e h = ap (stopped s) (sym h)
 
   pub run-more : (c : ℕ) (cs : List ℕ) → (length (listing t s m) ≡ 0 → ⊥) → s .total < 1000000000
       → run k t m s (c ∷ cs) ≡ one-more (run k t m (made-if k t s (chosen t m s c)) cs)
@@ -151,3 +151,8 @@ module _ {K B : Type 0} (words : B → Words) (x y : Board K B) (e : y .tables �
   same-chosen n c v h e =
       e ∙ ap (λ i. nth (listing (table (y .tables)) (portless (y .state)) (cells-of (y .tables))) (c % i)) h
       ∙ ap (λ xs. nth xs (c % length xs)) same-listing
+
+  pub same-last : (e : Stop) → e ≡ last-stop (table (y .tables)) (cells-of (y .tables)) (portless (y .state))
+      → e ≡ last-stop (table (x .tables)) (cells-of (x .tables)) (state-of words y)
+  same-last e h =
+      h ∙ ap (λ (xs : List Move). cond (eqb (length xs) 0) Rest (cond (ltb (y .state .total) 1000000000) End Limit)) same-listing

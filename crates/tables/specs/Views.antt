@@ -9,6 +9,9 @@ use Rattle.rules.specs.Programs.{Table}
 use Rattle.rules.specs.States.{Move, step, close, meet, poison}
 use Rattle.tables.specs.declared.moves.Move as enum
 use Rattle.tables.specs.declared.moves.Move.the-variants.{Step, Close, Meet, Poison}
+use Rattle.rules.specs.Names.{Name}
+use Rattle.tables.specs.declared.moves.MoveKind as kinds
+use Rattle.tables.specs.declared.moves.MoveName.{MoveName}
 use Rattle.tables.specs.declared.tables.Tables.{Tables}
 use Rattle.tables.specs.Fit.{no-place}
 use Rattle.tables.specs.Stms.{stm-at, after-at, place-at, catches-at, has-got, no-cell}
@@ -47,3 +50,13 @@ move (Poison p h) = poison p h
 abbrev pub moved : std.Option enum.Move → Option Move
 moved None = none
 moved (Some m) = some (move m)
+
+-- Kind 0 is step, 1 close, 2 meet, 3 poison.
+abbrev pub kind-number : kinds.MoveKind → ℕ
+kind-number kinds.the-variants.Step = 0
+kind-number kinds.the-variants.Close = 1
+kind-number kinds.the-variants.Meet = 2
+kind-number kinds.the-variants.Poison = 3
+
+abbrev pub name : MoveName → Name
+name n = record { kind = kind-number (n .kind); first = n .first; second = n .second }

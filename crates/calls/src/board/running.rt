@@ -1,12 +1,27 @@
 // A run over choices.
 ghost use mathlib.Core.Path.{_≡_};
-ghost use Rattle.calls.specs.Boards.{RunTells};
+ghost use Rattle.tables.specs.Views.{table, cells-of};
+ghost use Rattle.board.specs.Views.{portless};
+ghost use Rattle.calls.specs.Boards.{RunTells, last-stop};
 use crate::board::Board;
 use banks::bank::Bank;
 use numbers::kind::NumberKind;
 use rules::answers::Stop;
 
 impl<K: NumberKind, B: Bank> Board<K, B> {
+    // Why a run stops whose choices are used up: at rest, at the limit, or at the list's end, named in that order.
+    fn last_stop(&self) -> Stop
+        ensures { λ r. ⌜ r ≡ last-stop (table (now (self .entry) .tables)) (cells-of (now (self .entry) .tables)) (portless (now (self .entry) .state)) ⌝ }
+    {
+        if self.permitted() == 0 {
+            Stop::Rest
+        } else if self.state.total < 1000000000 {
+            Stop::End
+        } else {
+            Stop::Limit
+        }
+    }
+
     // Grants, for each choice, the permitted move at that index modulo their number. Tells how many it granted, and
     // why it stopped: at rest, at the limit, or at the list's end, named in that order.
     pub fn run(&mut self, choices: &[u32]) -> (u32, Stop)
@@ -27,12 +42,6 @@ impl<K: NumberKind, B: Bank> Board<K, B> {
             self.grant(m);
             granted += 1;
         }
-        if self.permitted() == 0 {
-            (granted, Stop::Rest)
-        } else if self.state.total < 1000000000 {
-            (granted, Stop::End)
-        } else {
-            (granted, Stop::Limit)
-        }
+        (granted, self.last_stop())
     }
 }

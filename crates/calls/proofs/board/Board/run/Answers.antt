@@ -18,7 +18,7 @@ use Rattle.calls.specs.Boards.{state-of}
 use Rattle.tables.specs.Views.{cells-of, moved}
 use Rattle.tables.specs.Views.{table, move}
 use Rattle.board.specs.Views.{portless}
-use Rattle.calls.proofs.Choosing.{plus, plus-one, plus-none, stops, run-rest, run-full, run-end, run-next, nth-within, all-granted, same-length, same-chosen}
+use Rattle.calls.proofs.Choosing.{plus, plus-one, plus-none, stops, run-rest, run-full, run-end, run-next, nth-within, all-granted, same-length, same-chosen, same-last}
 use Rattle.calls.proofs.board.Board.run.Needs as need
 
 pub loop-choice-holds : need.loop-choice-holds
@@ -83,8 +83,8 @@ loop-choice-again g c =
     let total : z .state .total ≡ 1 + y .state .total = ap (λ (s : State). s .total) (c .grant .ensures .view) in
     (i .0 ∙ ap (plus (c .loop-choice .granted)) more ∙ plus-one _ _, c .grant .ensures .tables ∙ i .1, c .grant .ensures .kind ∙ i .2, omega (arith, total, i .3))
 
-pub returns-then-permitted-eq0 : need.returns-then-permitted-eq0
-returns-then-permitted-eq0 g c =
+pub returns : need.returns
+returns g c =
     let k = g .K·NumberKind .meaning in
     let words = g .B·Bank .words in
     let x = c .args .self .now in
@@ -92,30 +92,7 @@ returns-then-permitted-eq0 g c =
     let t = table (x .tables) in
     let m = cells-of (x .tables) in
     let i = c .loop-choice .inv in
-    let len : c .permitted .result ≡ length (listing t (state-of words y) m) = same-length words x y (i .1) _ (c .permitted .ensures) in
-    stops k words x y (c .args .choices .now) (c .loop-choice .granted) Rest (drop (c .loop-choice .choice-index) (c .args .choices .now)) (i .0) (run-rest k t m (state-of words y) _ (sym len ∙ c .if-permitted-eq0 .taken)) (i .1) (i .2)
-
-pub returns-then-self-lt1000000000 : need.returns-then-self-lt1000000000
-returns-then-self-lt1000000000 g c =
-    let k = g .K·NumberKind .meaning in
-    let words = g .B·Bank .words in
-    let x = c .args .self .now in
-    let y = c .loop-choice .self in
-    let t = table (x .tables) in
-    let m = cells-of (x .tables) in
-    let i = c .loop-choice .inv in
-    let len : c .permitted .result ≡ length (listing t (state-of words y) m) = same-length words x y (i .1) _ (c .permitted .ensures) in
+    let e = c .last-stop .result in
     let none : drop (c .loop-choice .choice-index) (c .args .choices .now) ≡ [] = drop-all (c .loop-choice .choice-index) (c .args .choices .now) (omega arith) in
-    stops k words x y (c .args .choices .now) (c .loop-choice .granted) End (drop (c .loop-choice .choice-index) (c .args .choices .now)) (i .0) (rw none (run-end k t m (state-of words y) (λ e. c .if-permitted-eq0 .left (len ∙ e)) (omega arith))) (i .1) (i .2)
-
-pub returns-else-self-lt1000000000 : need.returns-else-self-lt1000000000
-returns-else-self-lt1000000000 g c =
-    let k = g .K·NumberKind .meaning in
-    let words = g .B·Bank .words in
-    let x = c .args .self .now in
-    let y = c .loop-choice .self in
-    let t = table (x .tables) in
-    let m = cells-of (x .tables) in
-    let i = c .loop-choice .inv in
-    let len : c .permitted .result ≡ length (listing t (state-of words y) m) = same-length words x y (i .1) _ (c .permitted .ensures) in
-    stops k words x y (c .args .choices .now) (c .loop-choice .granted) Limit (drop (c .loop-choice .choice-index) (c .args .choices .now)) (i .0) (run-full k t m (state-of words y) _ (λ e. c .if-permitted-eq0 .left (len ∙ e)) (omega arith)) (i .1) (i .2)
+    stops k words x y (c .args .choices .now) (c .loop-choice .granted) e (drop (c .loop-choice .choice-index) (c .args .choices .now)) (i .0)
+    (rw none (run-end k t m (state-of words y) e (same-last words x y (i .1) e (c .last-stop .ensures)))) (i .1) (i .2)
