@@ -1,12 +1,11 @@
 -- One digit more of a literal.
-use mathlib.Core.Path.{_≡_, refl, sym, ap, _∙_}
-use mathlib.Core.Bool.{Bool, true, false, cond, _&&_}
-use mathlib.Core.List.{List, [], _∷_}
-use Prim.Native.Nat.{ℕ, _+_, _-_, _*_, _^_, _<_, _≤_, suc}
+use mathlib.Core.Path.{_≡_, refl}
+use mathlib.Core.Bool.{false, cond}
+use mathlib.Core.List.{List}
+use Prim.Native.Nat.{ℕ, _+_, _-_, _*_, _^_, _<_, _≤_}
 use native.Mathlib.Omega.{arith}
 use native.Mathlib.Numerals.{add-one}
-use native.Mathlib.Nat.{pow-suc, pow-le-pow-right}
-use lib.Dec.{leb}
+use native.Mathlib.Nat.{pow-suc}
 use lib.ListN.{length, drop, getD}
 use lib.Seq.{drop-cons}
 use Rattle.std.proofs.shelf.Lists.{drop-all}
@@ -32,9 +31,6 @@ read-done n i bs h = rw (drop-all i bs h) refl
 pub read-whole : (bs : List ℕ) → 1 ≤ length bs → length bs ≤ 10 → digits-value bs ≡ read-on 0 bs
 read-whole bs lo hi = grind (arith, tells)
 
--- a value below ten to the number of digits read stays so, and fits 64 bits
+-- a value below ten to the number of digits read stays so
 pub value-grows : (n d i : ℕ) → n < 10 ^ i → d ≤ 9 → n * 10 + d < 10 ^ (i + 1)
 value-grows n d i h small = rw add-one (omega (arith, pow-suc 10 i))
-
-pub value-fits : (n i : ℕ) → n < 10 ^ i → i ≤ 10 → n < 10 ^ 10
-value-fits n i h le = let p : 10 ^ i ≤ 10 ^ 10 = pow-le-pow-right (omega arith) {i = i} {j = 10} le in omega arith

@@ -1,16 +1,14 @@
 -- Packed digits, one at a time, and the laws of the decimal kind.
-use mathlib.Core.Path.{_≡_, refl, sym, ap, _∙_}
+use mathlib.Core.Path.{_≡_, refl, sym}
 use mathlib.Core.Bool.{Bool, true, false, cond, _&&_}
-use mathlib.Core.List.{List, []}
 use Prim.Native.Nat.{ℕ, _<_, _≤_, _^_, _+_, _-_, _*_, _/_, _%_, zero, suc}
 use native.Mathlib.Omega.{arith}
 use native.Mathlib.Numerals.{sub-one}
 use native.Mathlib.Nat.{pow-suc}
-use lib.Dec.{ltb, eqb}
+use lib.Dec.{ltb}
 use Rattle.std.proofs.shelf.Decimals.{length-decimal-le}
 use Rattle.std.proofs.shelf.Tests.{and-parts, ltb-true, eqb-true}
 use Rattle.std.proofs.shelf.Ways.{tells}
-use Rattle.std.specs.declared.option.Option.{Option}
 use Rattle.std.specs.declared.option.Option.the-variants.{Some, None}
 use Rattle.numbers.specs.Kinds.{Laws}
 use Rattle.numbers.specs.Decimal.{packed, pack, unpack, packed-decimal, size}

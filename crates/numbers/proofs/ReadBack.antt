@@ -1,14 +1,12 @@
 -- Decimal writing, read back.
-use mathlib.Core.Path.{_≡_, refl, sym, ap, _∙_}
-use mathlib.Core.Bool.{true, cond}
-use mathlib.Core.List.{List, _∷_}
-use mathlib.Core.Logic.{_≢_}
-use Prim.Native.Nat.{ℕ, _<_, _≤_, _^_, _-_}
+use mathlib.Core.Path.{_≡_, refl, ap, _∙_}
+use mathlib.Core.Bool.{true}
+use mathlib.Core.List.{List}
+use Prim.Native.Nat.{ℕ, _<_, _^_, _-_}
 use native.Mathlib.Omega.{arith}
 use borrow.Author.Needs.{needs}
 use lib.Dec.{ltb}
 use lib.IntN.{pos}
-use lib.ListN.{length, getD}
 use mir.Syntax.{w32}
 use Rattle.std.proofs.shelf.Decimals.{digits-decimal, value-decimal, decimal-some, first-decimal, length-decimal-le}
 use Rattle.std.proofs.shelf.Numerals.{Numerals, numerals-by-fold}
@@ -17,8 +15,8 @@ use Rattle.std.proofs.shelf.Tests.{cond-true, lt-ltb}
 use Rattle.std.specs.Written.{decimal, signed}
 use Rattle.std.specs.declared.option.Option.the-variants.{Some, None}
 use Rattle.numbers.specs.Kinds.{Meaning}
-use Rattle.numbers.specs.Binary.{binary, reading}
-use Rattle.numbers.specs.Decimal.{packed-decimal, pack, unpack, packed, size}
+use Rattle.numbers.specs.Binary.{binary}
+use Rattle.numbers.specs.Decimal.{packed-decimal, pack, unpack, size}
 use Rattle.numbers.specs.Literals.{value-of, all-digits, digits-value, literal-reading}
 use Rattle.numbers.specs.Writing.{Digits-read-back, Binary-reads-back, Decimal-reads-back}
 use Rattle.numbers.proofs.Literals.{read-whole}

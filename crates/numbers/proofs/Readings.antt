@@ -3,14 +3,13 @@ use mathlib.Core.Path.{_≡_, refl, sym, ap, _∙_}
 use Prim.Native.Nat.{ℕ, _+_, _-_, _*_, _%_, _^_, _<_, _≤_}
 use native.Mathlib.Omega.{arith}
 use lib.Dec.{leb→le}
-use lib.IntN.{ℤ, pos, negsuc, natAbs, _+ℤ_, _-ℤ_, _*ℤ_}
+use lib.IntN.{ℤ, pos, negsuc, _+ℤ_, _-ℤ_, _*ℤ_}
 use lib.Signed.{_≤ℤ_, mag}
 use mir.Syntax.{w32}
-use mir.Val.{toZ, ofZ, SFits}
-use Rattle.std.specs.Numbers.{remEuclid}
+use mir.Val.{ofZ}
 use Rattle.std.specs.shelf.Signed.{wrapped}
-use Rattle.std.proofs.shelf.Signed.{ints, ofZ-toZ, wrapped-fits, wrapping-add-bits, wrapping-sub-bits, wrapping-mul-bits}
-use Rattle.numbers.specs.Binary.{binary, reading}
+use Rattle.std.proofs.shelf.Signed.{ofZ-toZ, wrapped-fits, wrapping-add-bits, wrapping-sub-bits, wrapping-mul-bits}
+use Rattle.numbers.specs.Binary.{reading}
 use Rattle.numbers.specs.Readings.{word-of, Sums-wrap, Differences-wrap, Products-wrap, Exact-in-range}
 
 word-of-small : (z : ℤ) → word-of z < 2 ^ 32

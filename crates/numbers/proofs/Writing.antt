@@ -1,8 +1,8 @@
 -- Decimal digits at the end of an array, from the last one on.
-use mathlib.Core.Path.{_≡_, refl, sym, ap, _∙_, subst}
+use mathlib.Core.Path.{_≡_, refl, ap, _∙_}
 use mathlib.Core.Bool.{Bool, true, false, cond}
 use mathlib.Core.List.{List, [], _∷_, _++_, append-assoc, append-nil}
-use Prim.Native.Nat.{ℕ, _+_, _-_, _*_, _/_, _%_, _^_, _<_, _≤_, zero, suc}
+use Prim.Native.Nat.{ℕ, _+_, _-_, _/_, _%_, _^_, _<_, _≤_, zero, suc}
 use native.Mathlib.Omega.{arith}
 use native.Mathlib.Numerals.{add-one, sub-one}
 use native.Mathlib.Nat.{pow-suc}
@@ -11,8 +11,8 @@ use borrow.Rule.Slice.PartMut.{putMid}
 use lib.ListN.{length, take, drop, set, length-drop}
 use Rattle.std.proofs.shelf.Lists.{drop-set, drop-at, drop-all, length-take-le}
 use Rattle.std.specs.Written.{decimal}
-use Rattle.std.proofs.shelf.Decimals.{decimal-digit, decimal-step, length-decimal-le}
-use Rattle.std.proofs.shelf.Tests.{cond-true, cond-false, lt-ltb, le-ltb, ltb-true, ltb-false}
+use Rattle.std.proofs.shelf.Decimals.{decimal-digit, decimal-step}
+use Rattle.std.proofs.shelf.Tests.{cond-false, le-ltb, ltb-true, ltb-false}
 
 -- the digits before the last one
 abbrev pub before : ℕ → List ℕ
@@ -31,9 +31,9 @@ pub tenth : (n k : ℕ) → 10 ≤ n → n < 10 ^ k → n / 10 < 10 ^ (k - 1)
 tenth n zero ten h = absurd (omega (arith, h))
 tenth n (suc k) ten h = rw sub-one (omega (arith, pow-suc 10 k))
 
-pub some-left : (n k : ℕ) → 10 ≤ n → n < 10 ^ k → 0 < k
-some-left n zero ten h = absurd (omega (arith, h))
-some-left n (suc k) ten h = omega arith
+pub some-left : (n k : ℕ) → 1 ≤ n → n < 10 ^ k → 1 ≤ k
+some-left n zero some h = absurd (omega (arith, h))
+some-left n (suc k) some h = omega arith
 
 pub digit-more : (n rest from : ℕ) (bs : List ℕ) → n < 2 ^ 32 → rest ≤ n → 10 ≤ rest → 0 < from → from ≤ length bs
     → decimal n ≡ before rest ++ drop from bs
@@ -45,11 +45,11 @@ digit-more n rest (suc from) bs h le ten pos in-bs e =
     ∙ append-assoc (before (rest / 10)) ((48 + rest / 10 % 10) ∷ []) (drop (suc from) bs)
     ∙ ap (λ ds. before (rest / 10) ++ ds) (rw (sub-one, drop-set bs from (48 + rest / 10 % 10) (omega arith), add-one) refl)
 
--- ten digits in eleven bytes leave one for a sign
-pub sign-fits : (n from : ℕ) (bs : List ℕ) → n < 2 ^ 32 → length bs ≡ 11 → drop from bs ≡ decimal n → 1 ≤ from
-sign-fits n from bs small whole e =
-    let few = length-decimal-le 10 n (omega arith) (omega arith) (omega arith) in
-    omega (arith, ap length e, length-drop from bs)
+-- a byte put before the written ones
+pub put-before : (b from : ℕ) (bs : List ℕ) → 1 ≤ from → from ≤ length bs → drop (from - 1) (set bs (from - 1) b) ≡ b ∷ drop from bs
+put-before b from bs some in-bs =
+    let next : from - 1 + 1 ≡ from = omega arith in
+    drop-set bs (from - 1) b (omega arith) ∙ ap (λ n. b ∷ drop n bs) next
 
 -- bytes put at the end of an array stand there
 pub put-at-end : (a k : ℕ) (xs ys zs : List ℕ) → a ≤ length xs → length xs ≤ a + k → ys ≡ zs → drop a (putMid a k xs ys) ≡ zs

@@ -1,6 +1,5 @@
 -- Binary numbers: 32-bit two's complement.
-use mathlib.Core.Bool.{Bool, cond}
-use mathlib.Core.List.{List}
+use mathlib.Core.Bool.{cond}
 use Prim.Native.Nat.{ℕ, _^_, _+_, _-_, _*_, _%_}
 use lib.Dec.{ltb}
 use lib.IntN.{ℤ}
@@ -8,7 +7,6 @@ use lib.Signed.{ltZ}
 use mir.Syntax.{w32}
 use mir.Val.{toZ}
 use Rattle.std.specs.Written.{signed}
-use Rattle.std.specs.declared.option.Option.{Option}
 use Rattle.std.specs.declared.option.Option.the-variants.{Some, None}
 use Rattle.numbers.specs.Kinds.{Meaning}
 

@@ -1,10 +1,8 @@
 -- Decimal numbers: eight packed digits of four bits, modulo 100,000,000.
 use mathlib.Core.Bool.{Bool, cond, _&&_}
-use mathlib.Core.List.{List}
 use Prim.Native.Nat.{ℕ, _+_, _-_, _*_, _/_, _%_, zero, suc}
 use lib.Dec.{ltb, eqb}
 use Rattle.std.specs.Written.{decimal}
-use Rattle.std.specs.declared.option.Option.{Option}
 use Rattle.std.specs.declared.option.Option.the-variants.{Some, None}
 use Rattle.numbers.specs.Kinds.{Meaning}
 

@@ -5,9 +5,8 @@ use Prim.Native.Nat.{ℕ, _<_, _^_, _-_}
 use lib.IntN.{ℤ, pos, negsuc, natAbs, _+ℤ_, _-ℤ_, _*ℤ_}
 use lib.Signed.{_≤ℤ_}
 use Rattle.std.specs.Numbers.{remEuclid}
-use Rattle.numbers.specs.Kinds.{Meaning}
 use Rattle.numbers.specs.Binary.{binary, reading}
-use Rattle.numbers.specs.Decimal.{packed-decimal, pack, unpack, packed}
+use Rattle.numbers.specs.Decimal.{pack, unpack, packed}
 
 -- The word that stands for an integer modulo 2^32.
 abbrev pub word-of : ℤ → ℕ

@@ -8,7 +8,6 @@ use lib.IntN.{negsuc}
 use lib.ListN.{getD}
 use Rattle.std.specs.Written.{decimal}
 use Rattle.std.specs.declared.option.Option.the-variants.{Some, None}
-use Rattle.numbers.specs.Kinds.{Meaning}
 use Rattle.numbers.specs.Binary.{binary, reading}
 use Rattle.numbers.specs.Decimal.{packed-decimal, pack, packed}
 use Rattle.numbers.specs.Literals.{digits-value, literal-reading}

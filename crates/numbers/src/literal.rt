@@ -7,13 +7,12 @@ use crate::kind::NumberKind;
 pub fn literal_value(digits: &[u8]) -> Option<u64>
     ensures { λ r. ⌜ r ≡ digits-value (now (digits .entry)) ⌝ }
 {
-    if digits.len() == 0 || digits.len() > 10 {
+    if digits.is_empty() || digits.len() > 10 {
         return None;
     }
     let mut value = 0u64;
-    for i in 0..digits.len() {
-        let digit = digits[i];
-        if digit < b'0' || digit > b'9' {
+    for &digit in digits {
+        if !digit.is_ascii_digit() {
             return None;
         }
         value = value * 10 + (digit - b'0') as u64;

@@ -2,6 +2,7 @@ use crate::binary::Binary;
 use crate::binary::BinaryKind;
 use crate::decimal::Decimal;
 use crate::decimal::DecimalKind;
+use crate::digits::Digits;
 use crate::kind::NumberKind;
 use crate::literal::literal_value;
 use crate::literal::read_literal;
@@ -73,6 +74,18 @@ fn words_written() -> Result<(), Fail> {
         check_eq(Decimal.written(word).as_bytes(), text.as_bytes())?;
     }
     Ok(())
+}
+
+// Eleven bytes are a written form, twelve are none.
+#[test]
+fn forms_from_bytes() -> Result<(), Fail> {
+    for text in ["", "-7", "12345678901"] {
+        let Some(form) = Digits::from_bytes(text.as_bytes()) else {
+            return Err(Fail::new(text));
+        };
+        check_eq(form.as_bytes(), text.as_bytes())?;
+    }
+    check(Digits::from_bytes(b"123456789012").is_none())
 }
 
 // The number that digits write, and the word that each kind reads.

@@ -1,4 +1,4 @@
--- Cells, ports and marks: two different permitted moves do not clash there either.
+-- Which cells and ports a move writes and reads, and that two different permitted moves do not conflict there.
 use mathlib.Core.Path.{_≡_, refl, sym, ap, subst, _∙_}
 use mathlib.Core.List.{List, [], _∷_}
 use mathlib.Core.Bool.{Bool, true, false, cond, not, _&&_, _||_}
@@ -24,6 +24,8 @@ use Rattle.rules.proofs.Tree.{climbs→, part-ways}
 use Rattle.rules.proofs.Readiness.{same-next, counts-in, ready-running, ready-down}
 use Rattle.rules.proofs.Acts.{Fits}
 use Rattle.rules.proofs.Places.{WritesPlace, ReadsPlace, places-disjoint, run-place, step-fits, observed-inv, runs-observed}
+use Rattle.rules.proofs.Bounds.{any-out}
+use Rattle.rules.proofs.Above.{beside, knows-counted}
 
 -- a place that runs at a statement that touches the cell, or takes from the port
 abbrev pub Owner : Table → State → ℕ → ℕ → Type 0
@@ -61,12 +63,6 @@ TakesPort t s (close p) i = ⊥
 TakesPort t s (meet h) i = ⊥
 TakesPort t s (poison p h) i = ⊥
 
--- a touch that wipes nothing
-abbrev pub Lowering : MarkChange → Type 0
-Lowering keep = Unit {0}
-Lowering (lower-to j) = Unit {0}
-Lowering reset = ⊥
-
 pub awaits-next : (st : Stm) (c h : ℕ) → awaits st ≡ some (c, h) → st ≡ next c h
 awaits-next end c h e = some-none (c, h) none e refl
 awaits-next (var a) c h e = some-none (c, h) none e refl
@@ -84,10 +80,6 @@ awaits-next (throw g j) c h e = some-none (c, h) none e refl
 awaits-touches : (st : Stm) (c h : ℕ) → awaits st ≡ some (c, h) → Touches st c
 awaits-touches st c h e = subst (λ (v : Stm). Touches v c) (sym (awaits-next st c h e)) refl
 
-any-inv : (n : ℕ) (f : ℕ → Bool) → T (any-below n f) → (q : ℕ) × T (f q)
-any-inv zero f h = absurd h
-any-inv (suc n) f h = elim (T-or (f n) (any-below n f) h) [ inl a ↦ (n, a) | inr b ↦ any-inv n f b ]
-
 owns-inv : (t : Table) (o : Option ℕ) (c : ℕ) → T (owns-at t o c) → (x : ℕ) × (h : ℕ) × (o ≡ some x) × (awaits (t .stm x) ≡ some (c, h))
 owns-inv t none c e = absurd e
 owns-inv t (some x) c e = go (awaits (t .stm x)) refl e
@@ -97,88 +89,14 @@ owns-inv t (some x) c e = go (awaits (t .stm x)) refl e
     go (some d) i b = (x, d .1, refl, i ∙ ap (λ a. some (a, d .1)) (sym (eqb→eq c (d .0) b)))
 
 module _ (t : Table) (sd : Sound t) (s : State) (wf : Wf t s) where
-  -- ---- the tree in a state
-
-  -- above a place that is not idle stand parted places
-  above : (p : ℕ) {q : ℕ} → Within t p q → T (not (isIdle (s .at q))) → (q ≡ p) ⊎ ((x : ℕ) × (s .at p ≡ parted x))
-  above p (here e) n = inl e
-  above p (more {q} z w) n =
-      let b = wf .branches q z n in
-      elim (above p w (subst (λ (l : Local). T (not (isIdle l))) (sym b) tt)) [
-        | inl e ↦ inr (t .under q, sym (ap (s .at) e) ∙ b)
-        | inr o ↦ inr o
-      ]
-
-  -- and on the way down to a running or parted place each one is
-  above-at : (p : ℕ) {v : ℕ} → Within t p v → (q : ℕ) → t .parent q ≡ v → T (nonzero q) → T (busy (s .at q))
-      → (c : ℕ) × Child t p c × T (busy (s .at c)) × Within t c q
-  above-at p (here e) q i z b = (q, (z, i ∙ e), b, here refl)
-  above-at p (more {q = v} y w) q i z b =
-      let e : s .at v ≡ parted (t .under q) = sym (ap (s .at) i) ∙ wf .branches q z (live-some _ (busy-live _ b)) in
-      let r = above-at p w v refl y (subst (λ (l : Local). T (busy l)) (sym e) tt) in
-      (r .0, r .1, r .2, more z (subst (λ (u : ℕ). Within t (r .0) u) (sym i) (r .3)))
-
-  pub above-busy : (p q : ℕ) → T (nonzero q) → Within t p (t .parent q) → T (busy (s .at q))
-      → (c : ℕ) × Child t p c × T (busy (s .at c)) × Within t c q
-  above-busy p q z w b = above-at p w q refl z b
-
-  apart-from : (p q x y : ℕ) → s .at p ≡ running x → s .at q ≡ running y → p ≢ q → Within t p q → ⊥
-  apart-from p q x y e f ne w =
-      elim (above p w (subst (λ (l : Local). T (not (isIdle l))) (sym f) tt)) [
-        | inl d ↦ ne (sym d)
-        | inr o ↦ differ isParted (o .1) e tt tt
-      ]
-
-  -- a place above one that is not idle is not idle
-  above-some : (c q : ℕ) → Within t c q → T (not (isIdle (s .at q))) → T (not (isIdle (s .at c)))
-  above-some c q w n =
-      elim (above c w n) [
-        | inl e ↦ subst (λ (v : ℕ). T (not (isIdle (s .at v)))) e n
-        | inr o ↦ subst (λ (l : Local). T (not (isIdle l))) (sym (o .1)) tt
-      ]
-
-  -- two running places stand in two branches of one par
-  beside : (p q x y : ℕ) → s .at p ≡ running x → s .at q ≡ running y → p ≢ q → Beside t (t .place x) (t .place y)
-  beside p q x y e f ne =
-      let a = part-ways t sd p p p q (omega arith) (here refl) (apart-from p q x y e f ne) (apart-from q p y x f e (λ i. ne (sym i))) in
-      let b : s .at (t .parent (a .0)) ≡ parted (t .under (a .0)) =
-      wf .branches (a .0) (a .3) (above-some (a .0) p (a .6) (subst (λ (l : Local). T (not (isIdle l))) (sym e) tt))
-      in
-      let c : s .at (t .parent (a .1)) ≡ parted (t .under (a .1)) =
-      wf .branches (a .1) (a .4) (above-some (a .1) q (a .7) (subst (λ (l : Local). T (not (isIdle l))) (sym f) tt))
-      in
-      let g : parted (t .under (a .0)) ≡ parted (t .under (a .1)) = sym b ∙ ap (s .at) (a .5) ∙ c in (
-        a .0,
-        a .1,
-        a .2,
-        a .3,
-        a .4,
-        parted-inj _ _ g,
-        subst (λ (v : ℕ). Within t (a .0) v) (sym (run-place t s wf p x e)) (a .6),
-        subst (λ (v : ℕ). Within t (a .1) v) (sym (run-place t s wf q y f)) (a .7),
-      )
-
   owners : (p q c : ℕ) → p ≢ q → Owner t s p c → Owner t s q c → ⊥
-  owners p q c ne a b = sd .cells-apart (a .0) (b .0) c (beside p q (a .0) (b .0) (a .1) (b .1) ne) (a .2) (b .2)
+  owners p q c ne a b = sd .cells-apart (a .0) (b .0) c (beside t sd s wf p q (a .0) (b .0) (a .1) (b .1) ne) (a .2) (b .2)
 
   takers : (p q i : ℕ) → p ≢ q → Taker t s p i → Taker t s q i → ⊥
-  takers p q i ne a b = sd .ports-apart (a .0) (b .0) i (beside p q (a .0) (b .0) (a .1) (b .1) ne) (a .2) (b .2)
+  takers p q i ne a b = sd .ports-apart (a .0) (b .0) i (beside t sd s wf p q (a .0) (b .0) (a .1) (b .1) ne) (a .2) (b .2)
 
   met-owner : (h c : ℕ) (m : Met t s h c) → Owner t s (m .0) c
   met-owner h c m = (m .1, m .3, awaits-touches (t .stm (m .1)) c h (m .4))
-
-  -- a live place that knows h is reached from where h is declared
-  pub knows-counted : (f q h : ℕ) → q ≤ f → T (live (s .at q)) → T (t .knows q h) → Counted t s h (t .declarer h) q
-  knows-counted zero q h le l n = let z = sd .lower q (sd .known q h n .0) in absurd (omega arith)
-  knows-counted (suc f) q h le l n =
-      let a = sd .known q h n in
-      let z = sd .lower q (a .0) in
-      let e = wf .branches q (a .0) (live-some _ l) in
-      let j = counts-in t s h q (t .parent q) (t .under q) e (a .0, refl, l, n) in
-      elim (a .1) [
-        | inl b ↦ more j (knows-counted f (t .parent q) h (omega arith) (subst (λ (v : Local). T (live v)) (sym e) tt) b)
-        | inr b ↦ more j (here b)
-      ]
 
   -- ---- cells
 
@@ -189,7 +107,7 @@ module _ (t : Table) (sd : Sound t) (s : State) (wf : Wf t s) where
       let l : T (live (s .at p)) = subst (λ (v : Local). T (live v)) (sym (o .1)) tt in
       let r : Counted t s h (t .declarer h) p =
       elim (sd .touch-home (o .0) c (o .2)) [
-        | inl n ↦ knows-counted p p h (omega arith) l (subst (λ (v : ℕ). T (t .knows p v)) g (subst (λ (v : ℕ). T (t .knows v (t .home c))) i n))
+        | inl n ↦ knows-counted t sd s wf p p h (omega arith) l (subst (λ (v : ℕ). T (t .knows p v)) g (subst (λ (v : ℕ). T (t .knows v (t .home c))) i n))
         | inr d ↦ here (sym i ∙ d ∙ ap (t .declarer) g)
       ]
       in
@@ -235,8 +153,8 @@ module _ (t : Table) (sd : Sound t) (s : State) (wf : Wf t s) where
   cell-writes k (close p) c v a e = some-none v none e refl
   cell-writes k (meet h) c v a e =
       let b = cond-some (any-below (t .places) (λ q. owns-at t (runs-at (observed t s h (t .declarer h) q)) c)) (s .cell h) v e in
-      let q = any-inv (t .places) (λ q. owns-at t (runs-at (observed t s h (t .declarer h) q)) c) (b .0) in
-      let o = owns-inv t (runs-at (observed t s h (t .declarer h) (q .0))) c (q .1) in
+      let q = any-out (t .places) (λ q. owns-at t (runs-at (observed t s h (t .declarer h) q)) c) (b .0) in
+      let o = owns-inv t (runs-at (observed t s h (t .declarer h) (q .0))) c (q .2) in
       let u = runs-observed t s h (t .declarer h) (q .0) (o .0) (o .2) in
       let w = ready-running t s h (o .0) (u .1) (ready-down t s h (a .1) (u .0)) in
       let g : h ≡ o .1 = same-next t s (q .0) (w .0) (o .0) (w .1) c h (o .1) (w .2) (u .1) (w .3) (o .3) .1 in
@@ -266,75 +184,3 @@ module _ (t : Table) (sd : Sound t) (s : State) (wf : Wf t s) where
   pops k (close p) i a e = e
   pops k (meet h) i a e = e
   pops k (poison p h) i a e = e
-
-  -- ---- marks
-
-  -- the marks that an act of p leaves or lowers: those of places above p
-  abbrev pub Marked : ℕ → ℕ → ℕ → MarkChange → Type 0
-  Marked p x q keep = Unit {0}
-  Marked p x q (lower-to j) = T (nonzero p) × Within t q (t .parent p) × ((j ≡ 0) ⊎ (t .stm x ≡ throw q j))
-  Marked p x q reset = ⊥
-
-  raise-marks : (p x q g j : ℕ) → t .place x ≡ p → t .stm x ≡ throw g j → Marked p x q (act-mark t p (raise g j) q)
-  raise-marks p x q g j i e =
-      let a = sd .thrown x g j e in
-      let z : T (nonzero p) = subst (λ (v : ℕ). T (nonzero v)) i (a .0) in
-      go (eqb q g) (within t g q && within t q (t .parent p))
-      (λ h. let d = eqb→eq q g h in (
-        z,
-        subst (λ (v : ℕ). Within t q (t .parent v)) i (subst (λ (v : ℕ). Within t v (t .parent (t .place x))) (sym d) (a .1)),
-        inr (subst (λ (v : ℕ). t .stm x ≡ throw v j) (sym d) e),
-      ))
-      (λ h. (z, climbs→ (t .parent) nonzero q (t .parent p) (t .parent p) (T-and (within t g q) (within t q (t .parent p)) h .1), inl refl))
-    where
-      go : (a b : Bool) → (T a → Marked p x q (lower-to j)) → (T b → Marked p x q (lower-to 0)) → Marked p x q (cond a (lower-to j) (cond b (lower-to 0) keep))
-      go true b f h = f tt
-      go false true f h = h tt
-      go false false f h = tt
-
-  act-marks : (p x q : ℕ) (a : Act) → t .place x ≡ p → Fits t x (t .stm x) a → Marked p x q (act-mark t p a q)
-  act-marks p x q stay i f = tt
-  act-marks p x q (pass w r y) i f = tt
-  act-marks p x q (fork w y bs) i f = tt
-  act-marks p x q (raise g j) i f = raise-marks p x q g j i f
-  act-marks p x q halt i f = tt
-
-  pub step-marks : (k : Meaning) (p q : ℕ) (a : Permitted t s (step p)) → Marked p (a .0) q (effect k t s (step p) .mark q)
-  step-marks k p q a = act-marks p (a .0) q (doing k t s (s .at p)) (run-place t s wf p (a .0) (a .1)) (step-fits t sd s wf k p (a .0) (a .1))
-
-  -- a place that may close is marked by nobody else
-  pub unmarked : (k : Meaning) (p : ℕ) (n : Move) → Permitted t s (close p) → Permitted t s n → close p ≢ n → effect k t s n .mark p ≡ keep
-  unmarked k p (step r) a b ne = go (effect k t s (step r) .mark p) (step-marks k r p b)
-    where
-      go : (o : MarkChange) → Marked r (b .0) p o → o ≡ keep
-      go keep h = refl
-      go (lower-to j) h =
-          let i = above-busy p r (h .0) (h .1) (subst (λ (l : Local). T (busy l)) (sym (b .1)) tt) in
-          absurd (a .2 (i .0) (i .1) (i .2))
-      go reset h = absurd h
-  unmarked k p (close r) a b ne = ap (λ o. cond o reset keep) (T-false (eqb p r) (λ h. ne (ap close (eqb→eq p r h))))
-  unmarked k p (meet h) a b ne = refl
-  unmarked k p (poison r h) a b ne =
-      elim (look (observed t s h r p)) [
-        | inl e ↦ ap parts-at e
-        | inr o ↦ absurd (places-disjoint t sd s wf (close p) (poison r h) p a b ne (inl refl) (observed-inv t s h r p (o .0) (o .1) .0))
-      ]
-
-  pub step-lowering : (k : Meaning) (p q : ℕ) → Permitted t s (step p) → Lowering (effect k t s (step p) .mark q)
-  step-lowering k p q a = go (effect k t s (step p) .mark q) (step-marks k p q a)
-    where
-      go : (o : MarkChange) → Marked p (a .0) q o → Lowering o
-      go keep h = tt
-      go (lower-to j) h = tt
-      go reset h = h
-
-  pub poison-lowering : (k : Meaning) (p h q : ℕ) → Lowering (effect k t s (poison p h) .mark q)
-  poison-lowering k p h q = go (observed t s h p q)
-    where
-      go : (o : Option Local) → Lowering (parts-at o)
-      go none = tt
-      go (some idle) = tt
-      go (some (running x)) = tt
-      go (some (parted x)) = tt
-      go (some finished) = tt
-      go (some poisoned) = tt

@@ -3,7 +3,12 @@ use mathlib.Core.Path.{refl}
 use Rattle.rules.specs.Listings.{listing}
 use Rattle.rules.specs.Choices.{run}
 use Rattle.rules.specs.Boards.{Cases-hold}
+use Rattle.rules.specs.Samples.{Samples-hold}
 
 pub cases-hold : Cases-hold
 unfolding listing run
 cases-hold k w = (refl, refl)
+
+pub samples-hold : Samples-hold
+unfolding listing run
+samples-hold = refl

@@ -18,44 +18,9 @@ use Rattle.rules.specs.Tests.{all-below, child, knowing-child, for-home, no-ne
 use Rattle.rules.specs.Decisions.{WaitsOrParts, Ready-or-spoiled, Ready-tells, Spoiled-tells, Counted-tells, Permitted-tells, Counted-form}
 use Rattle.lemmas.proofs.Tests.{T-and, and-T, T-or, or-l, or-r, T-dec, T-at, same?, eq-eqb, differ, some-none}
 use Rattle.rules.proofs.Locals.{busy-live, live-some}
+use Rattle.rules.proofs.Bounds.{any-out, any-in, all-out, all-in, imp-out, imp-in}
 use Rattle.rules.proofs.Tree.{climbs→, →climbs}
 use Rattle.rules.proofs.Readiness.{counts-out, spoiled-ready, ready-busy, ready-down, counted-child, spoiled-knows}
-
-any-out : (n : ℕ) (f : ℕ → Bool) → T (any-below n f) → (q : ℕ) × (q < n) × T (f q)
-any-out zero f h = absurd h
-any-out (suc n) f h =
-    elim (T-or (f n) (any-below n f) h) [
-      | inl a ↦ (n, omega arith, a)
-      | inr b ↦ let i = any-out n f b in let l = i .1 in (i .0, omega arith, i .2)
-    ]
-
-any-in : (n : ℕ) (f : ℕ → Bool) (q : ℕ) → q < n → T (f q) → T (any-below n f)
-any-in zero f q l h = absurd (omega arith)
-any-in (suc n) f q l h =
-    elim (same? q n) [
-      | inl e ↦ or-l (f n) (any-below n f) (subst (λ (v : ℕ). T (f v)) e h)
-      | inr ne ↦ or-r (f n) (any-below n f) (any-in n f q (omega arith) h)
-    ]
-
-all-out : (n : ℕ) (f : ℕ → Bool) → T (all-below n f) → (q : ℕ) → q < n → T (f q)
-all-out zero f h q l = absurd (omega arith)
-all-out (suc n) f h q l =
-    elim (same? q n) [
-      | inl e ↦ subst (λ (v : ℕ). T (f v)) (sym e) (T-and (f n) (all-below n f) h .0)
-      | inr ne ↦ all-out n f (T-and (f n) (all-below n f) h .1) q (omega arith)
-    ]
-
-all-in : (n : ℕ) (f : ℕ → Bool) → ((q : ℕ) → q < n → T (f q)) → T (all-below n f)
-all-in zero f h = tt
-all-in (suc n) f h = and-T (f n) (all-below n f) (h n (omega arith)) (all-in n f (λ q l. h q (omega arith)))
-
-imp-out : (a b : Bool) → T (not a || b) → T a → T b
-imp-out true b h i = h
-imp-out false b h i = absurd i
-
-imp-in : (a b : Bool) → (T a → T b) → T (not a || b)
-imp-in true b h = h tt
-imp-in false b h = tt
 
 home-out : (o : Option (ℕ × ℕ)) (h : ℕ) → T (for-home o h) → (c : ℕ) × (o ≡ some (c, h))
 home-out none h e = absurd e
@@ -127,7 +92,7 @@ module _ (t : Table) (s : State) where
         let v = o .1 in
         ready-in (g d o) f (omega arith)))))
 
-    -- every place looked at is good
+    -- every counted place waits, or is parted with a live child that knows h
     waits-or-parts : {q : ℕ} → Ready t s h q → WaitsOrParts t s h q
     waits-or-parts (waits w) = inl w
     waits-or-parts (parts x e c a g) = inr (x, e, (c, a))

@@ -25,7 +25,7 @@ use Rattle.rules.proofs.Acts.{Fits}
 use Rattle.rules.proofs.Places.{WritesPlace, writes, step-fits}
 
 -- what a throw does
-throwing : (k : Meaning) (t : Table) (s : State) (p g j : ℕ) → Throws t s p g j → doing k t s (s .at p) ≡ raise g j
+pub throwing : (k : Meaning) (t : Table) (s : State) (p g j : ℕ) → Throws t s p g j → doing k t s (s .at p) ≡ raise g j
 throwing k t s p g j a =
     ap (doing k t s) (a .1) ∙ ap (λ v. act k t (s .cell) (s .port) (a .0) v) (a .2)
 

@@ -17,7 +17,8 @@ use Rattle.rules.specs.Confluence.{Diamond}
 use Rattle.lemmas.proofs.Tests.{T-dec, T-false, look, is-none}
 use Rattle.rules.proofs.Commute.{Compatible, Apart, commute}
 use Rattle.rules.proofs.Places.{WritesPlace, ReadsPlace, writes→reads, places-disjoint, writes}
-use Rattle.rules.proofs.Cells.{cell-writes→reads, cells-disjoint, cell-writes, ports-disjoint, pops, Lowering, step-lowering, poison-lowering, unmarked}
+use Rattle.rules.proofs.Cells.{cell-writes→reads, cells-disjoint, cell-writes, ports-disjoint, pops}
+use Rattle.rules.proofs.Marks.{Lowering, step-lowering, poison-lowering, unmarked}
 use Rattle.rules.proofs.Stable.{stable}
 
 lowering-compatible : (a b : MarkChange) → Lowering a → Lowering b → Compatible a b

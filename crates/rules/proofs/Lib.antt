@@ -4,13 +4,17 @@ pub mod Tree
 pub mod Readiness
 pub mod Acts
 pub mod Places
+pub mod Above
 pub mod Cells
+pub mod Marks
 pub mod Stable
 pub mod Diamonds
+pub mod Branches
 pub mod Invariant
 pub mod Numbers
 pub mod Reached
 pub mod Runs
+pub mod Bounds
 pub mod Decide
 pub mod Lists
 pub mod Listed
@@ -21,3 +25,4 @@ pub mod Granting
 pub mod Chosen
 pub mod Checked
 pub mod Denied
+pub mod Told

@@ -5,6 +5,7 @@ use mathlib.Core.List.{List, [], _∷_, _++_}
 use mathlib.Core.Logic.{_⊎_, inl, inr}
 use mathlib.Core.Option.{Option, some, none}
 use Prim.Native.Nat.{ℕ, zero, suc, _<_}
+use native.Mathlib.Decide.{decLt}
 use native.Mathlib.Omega.{arith}
 use lib.Dec.{T, eqb, eqb→eq}
 use lib.ListN.{length}
@@ -17,7 +18,7 @@ use Rattle.rules.specs.Invariants.{Wf}
 use Rattle.rules.specs.Tests.{permitted, ready}
 use Rattle.rules.specs.Names.{name-of, Exists, Precedes}
 use Rattle.rules.specs.Listings.{nth, each, if-permitted, steps-of, closes-of, meets-of, poisons-of, listing, at-rest}
-use Rattle.rules.specs.ListingLaws.{Listed, Listing-tells, Listing-ordered, Permitted-exists, Rest-tells}
+use Rattle.rules.specs.ListingLaws.{Listed, Listing-tells, Listing-ordered, Listing-once, Permitted-exists, Rest-tells}
 use Rattle.lemmas.proofs.Tests.{T-and, eq-eqb}
 use Rattle.rules.proofs.Locals.{busy-live, live-some}
 use Rattle.rules.proofs.Readiness.{ready-busy}
@@ -224,6 +225,18 @@ listing-tells t s n m sd wf = (
 
 pub listing-ordered : Listing-ordered
 listing-ordered t s n i j m l = sorted-nth (listing t s n) (listing-sorted t s n) i j m l
+
+-- a name does not precede itself
+no-self : (m : Move) → Precedes (name-of m) (name-of m) → ⊥
+no-self m (inl l) = omega arith
+no-self m (inr a) = elim (a .1) [ inl l ↦ omega arith | inr b ↦ let l = b .1 in omega arith ]
+
+pub listing-once : Listing-once
+listing-once t s n i j m e f =
+    elim (decLt i j) [
+      | yes l ↦ absurd (no-self m (listing-ordered t s n i j m m l e f))
+      | no h ↦ elim (decLt j i) [ yes l ↦ absurd (no-self m (listing-ordered t s n j i m m l f e)) | no g ↦ omega arith ]
+    ]
 
 pub permitted-exists : Permitted-exists
 permitted-exists t s n (step p) sd wf hs a = wf .inside p (subst (λ (l : Local). T (not (isIdle l))) (sym (a .1)) tt)

@@ -1,4 +1,4 @@
--- Which places a move writes and reads, and that two different permitted moves do not clash there.
+-- Which places a move writes and reads, and that two different permitted moves do not conflict there.
 use mathlib.Core.Path.{_≡_, refl, sym, ap, subst, _∙_}
 use mathlib.Core.List.{List, [], _∷_}
 use mathlib.Core.Bool.{Bool, true, false, cond, not, _&&_, _||_}
@@ -118,7 +118,7 @@ module _ (t : Table) (sd : Sound t) (s : State) (wf : Wf t s) where
   alone-ready p q h a (inl e) r = a .not-ready h (subst (λ (v : ℕ). Ready t s h v) e r)
   alone-ready p q h a (inr d) r = a .no-child q d (ready-busy t s h r)
 
-  -- a place that may be poisoned is reached from no other ready place
+  -- a place that may be poisoned is counted by no other ready place
   not-counted-above : (r p h : ℕ) → Permitted t s (poison p h) → Ready t s h r → r ≢ p → Counted t s h r p → ⊥
   not-counted-above r p h a b ne (here e) = ne (sym e)
   not-counted-above r p h a b ne (more j w) =
@@ -220,7 +220,7 @@ module _ (t : Table) (sd : Sound t) (s : State) (wf : Wf t s) where
       let c = runs-observed t s h p q (b .0) (b .1) in
       (c .0, ready-running t s h (b .0) (c .1) (ready-down t s h (a .2) (c .0)))
 
-  -- what is written was live, or has a parent in the move's reach
+  -- what is written was live, or has a parent that the move writes
   pub live-or-child : (m : Move) (c : ℕ) → Permitted t s m → WritesPlace t s m c → T (live (s .at c)) ⊎ (T (nonzero c) × WritesPlace t s m (t .parent c))
   live-or-child (step p) c a (inl e) = inl (subst (λ (v : ℕ). T (live (s .at v))) (sym e) (busy-live _ (step-alone p a .is-busy)))
   live-or-child (step p) c a (inr d) = inr (d .0, inl (d .1))

@@ -39,7 +39,7 @@ module _ (t : Table) (s : State) (h : ℕ) where
       (and-T _ _ (subst (λ (v : ℕ). T (isParted (s .at v))) (sym (a .1)) (subst (λ (l : Local). T (isParted l)) (sym e) tt))
       (and-T _ _ (a .2) (a .3)))
 
-  -- one more place is reached
+  -- one more place is counted
   pub counted-child : (p r c x : ℕ) → Counted t s h p r → s .at r ≡ parted x → KnowingChild t s h r c → Counted t s h p c
   counted-child p r c x w e a = more (counts-in c r x e a) (subst (λ (v : ℕ). Counted t s h p v) (sym (a .1)) w)
 

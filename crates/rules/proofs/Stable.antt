@@ -24,7 +24,8 @@ use Rattle.rules.proofs.Tree.{climbs→, →climbs}
 use Rattle.rules.proofs.Readiness.{counts-out, counts-in, counted-child, ready-busy, ready-down, spoiled-knows}
 use Rattle.rules.proofs.Acts.{act-same}
 use Rattle.rules.proofs.Places.{WritesPlace, ReadsPlace, places-disjoint, writes, live-or-child, acting}
-use Rattle.rules.proofs.Cells.{WritesCell, ReadsCell, cells-disjoint, cell-writes, TakesPort, ports-disjoint, pops, Lowering, step-lowering, poison-lowering, unmarked}
+use Rattle.rules.proofs.Cells.{WritesCell, ReadsCell, cells-disjoint, cell-writes, TakesPort, ports-disjoint, pops}
+use Rattle.rules.proofs.Marks.{Lowering, step-lowering, poison-lowering, unmarked}
 
 pub same-move? : (m n : Move) → (m ≡ n) ⊎ (m ≢ n)
 same-move? m n = go m n
@@ -102,7 +103,7 @@ module _ (k : Meaning) (t : Table) (sd : Sound t) (s : State) (wf : Wf t s) (m :
         | inr o ↦ absurd (f (writes t sd s wf k m q (o .0) pm (o .1)))
       ]
 
-  same-cell : (c : ℕ) → (WritesCell t s m c → ⊥) → s′ .cell c ≡ s .cell c
+  pub same-cell : (c : ℕ) → (WritesCell t s m c → ⊥) → s′ .cell c ≡ s .cell c
   same-cell c f =
       elim (look (effect k t s m .cell c)) [
         | inl e ↦ ap (λ o. Option·getD o (s .cell c)) e

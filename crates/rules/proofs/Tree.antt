@@ -44,7 +44,7 @@ zero-place : (q : ℕ) → (T (nonzero q) → ⊥) → q ≡ 0
 zero-place q h = elim (same? q 0) [ inl e ↦ e | inr ne ↦ absurd (h (not-T (eqb q 0) (λ b. ne (eqb→eq q 0 b)))) ]
 
 module _ (t : Table) (sd : Sound t) where
-  root : (f q : ℕ) → q ≤ f → Within t 0 q
+  pub root : (f q : ℕ) → q ≤ f → Within t 0 q
   root zero q le = here (omega arith)
   root (suc f) q le =
       elim (T-dec (nonzero q)) [

@@ -12,13 +12,17 @@ use Rattle.rules.specs.declared.answers.Verdict.{Verdict}
 use Rattle.rules.specs.declared.answers.Verdict.the-variants.{Finished, Deadlock, Moving}
 use Rattle.rules.specs.Programs.{Table}
 use Rattle.rules.specs.Soundness.{Sound, Homes-inside}
-use Rattle.rules.specs.States.{State, Local, idle, running, parted, finished, poisoned, Move}
+use Rattle.rules.specs.States.{State, Local, idle, running, parted, finished, poisoned, busy, isParted, Move, step, close, meet, poison}
 use Rattle.rules.specs.Permissions.{Permitted, Rests}
 use Rattle.rules.specs.Invariants.{Wf}
 use Rattle.rules.specs.Listings.{listing, nth, at-rest}
 use Rattle.rules.specs.Answers.{isFinished, verdict}
-use Rattle.rules.specs.ListingLaws.{Verdict-finished, Verdict-deadlock, Verdict-moving}
-use Rattle.lemmas.proofs.Tests.{T-true, T-false, T-dec, T-at}
+use Rattle.rules.specs.ListingLaws.{Verdict-finished, Verdict-deadlock, Verdict-moving, Finished-rests}
+use Rattle.lemmas.proofs.Tests.{differ, T-true, T-false, T-dec, T-at}
+use Rattle.rules.proofs.Locals.{busy-live, live-some}
+use Rattle.rules.proofs.Tree.{root}
+use Rattle.rules.proofs.Above.{above}
+use Rattle.rules.proofs.Readiness.{ready-busy}
 use Rattle.rules.proofs.Listed.{rest-tells, listing-tells}
 
 finished-out : (l : Local) → T (isFinished l) → l ≡ finished
@@ -91,3 +95,18 @@ verdict-moving t s n sd wf hs = (
       ∙ ap (λ v. cond v Deadlock Moving)
       (T-false (at-rest t n s) (λ e. rest-tells t s n sd wf hs .0 e (a .1 .0) (a .1 .1))),
 )
+
+-- every permitted move has a busy place
+mover : (t : Table) (s : State) (m : Move) → Permitted t s m → (q : ℕ) × T (busy (s .at q))
+mover t s (step p) a = (p, subst (λ (l : Local). T (busy l)) (sym (a .1)) tt)
+mover t s (close p) a = (p, subst (λ (l : Local). T (busy l)) (sym (a .1)) tt)
+mover t s (meet h) a = (t .declarer h, ready-busy t s h (a .1))
+mover t s (poison p h) a = (p, ready-busy t s h (a .2))
+
+pub finished-rests : Finished-rests
+finished-rests t s sd wf e m a =
+    let b = mover t s m a in
+    elim (above t sd s wf 0 (root t sd (b .0) (b .0) (omega arith)) (live-some _ (busy-live _ (b .1)))) [
+      | inl i ↦ subst (λ (l : Local). T (busy l)) (ap (s .at) i ∙ e) (b .1)
+      | inr o ↦ differ isParted (o .1) e tt tt
+    ]

@@ -6,6 +6,7 @@ use Prim.Native.Nat.{ℕ}
 use Rattle.numbers.specs.Kinds.{Meaning}
 use Rattle.rules.specs.declared.answers.Verdict.the-variants.{Finished, Deadlock}
 use Rattle.rules.specs.Programs.{own, word, plus, end, var, set, know, next, try, par, throw}
+use Rattle.rules.specs.Contrasts.{waits-for-nothing, inside-its-try, poisoned-through, zero-over-try, ready-though-marked}
 use Rattle.rules.specs.Cases.{Case, program, all-hold, first-choices, other-choices}
 
 -- main { }
@@ -167,60 +168,6 @@ shared =
       words = 2 ∷ 2 ∷ [];
     }
 
--- main { var i; try { par { know i; throw T; } { i = 1; i = 2; }; } catch (T) { } }
--- A place that waits for nothing is not poisoned by a sibling.
-abbrev waits-for-nothing : Case
-waits-for-nothing =
-    record {
-      board =
-          program ((0, 0, 3, []) ∷ (0, 5, 6, 0 ∷ []) ∷ (0, 5, 8, 0 ∷ []) ∷ [])
-          ((0, 0) ∷ (0, 0) ∷ [])
-          ((0, end, 0, [])
-          ∷ (1, end, 1, [])
-          ∷ (2, end, 2, [])
-          ∷ (0, var 0, 4, [])
-          ∷ (0, try 5, 0, [])
-          ∷ (0, par (1 ∷ 2 ∷ []) ((1, 0) ∷ []), 0, 0 ∷ [])
-          ∷ (1, know, 7, [])
-          ∷ (1, throw 0 1, 1, [])
-          ∷ (2, set 0 (word 1), 9, [])
-          ∷ (2, set 0 (word 2), 2, [])
-          ∷ []);
-      cells = 2;
-      moves = 10;
-      ends = Finished;
-      words = 2 ∷ 0 ∷ [];
-    }
-
--- main { var a; par { try { par { know a; throw T; } { next a; }; } catch (T) { } next a; } { next a; }; }
--- The throw poisons inside its own try: the place outside waits on, and meets the one that caught it.
-abbrev inside-its-try : Case
-inside-its-try =
-    record {
-      board =
-          program ((0, 0, 5, []) ∷ (0, 6, 7, 0 ∷ []) ∷ (1, 8, 9, 0 ∷ []) ∷ (1, 8, 12, 0 ∷ []) ∷ (0, 6, 13, 0 ∷ []) ∷ [])
-          ((0, 0) ∷ (0, 0) ∷ (0, 0) ∷ (0, 0) ∷ (0, 0) ∷ [])
-          ((0, end, 0, [])
-          ∷ (1, end, 1, [])
-          ∷ (2, end, 2, [])
-          ∷ (3, end, 3, [])
-          ∷ (4, end, 4, [])
-          ∷ (0, var 0, 6, [])
-          ∷ (0, par (1 ∷ 4 ∷ []) ((1, 0) ∷ (2, 0) ∷ []), 0, [])
-          ∷ (1, try 8, 11, [])
-          ∷ (1, par (2 ∷ 3 ∷ []) ((3, 1) ∷ (4, 1) ∷ []), 11, 11 ∷ [])
-          ∷ (2, know, 10, [])
-          ∷ (2, throw 1 1, 2, [])
-          ∷ (1, next 1 0, 1, [])
-          ∷ (3, next 4 0, 3, [])
-          ∷ (4, next 2 0, 4, [])
-          ∷ []);
-      cells = 5;
-      moves = 13;
-      ends = Finished;
-      words = 0 ∷ 0 ∷ 0 ∷ 0 ∷ 0 ∷ [];
-    }
-
 abbrev pub cases : List Case
 cases =
     empty
@@ -232,6 +179,9 @@ cases =
     ∷ shared
     ∷ waits-for-nothing
     ∷ inside-its-try
+    ∷ poisoned-through
+    ∷ zero-over-try
+    ∷ ready-though-marked
     ∷ []
 
 -- Every case holds, for every kind and all words to come, by the first permitted moves and by others.

@@ -97,9 +97,13 @@ abbrev pub all-hold : Meaning → (ℕ → List ℕ) → List ℕ → List Case 
 all-hold k w cs [] = true
 all-hold k w cs (x ∷ xs) = holds k w cs x && all-hold k w cs xs
 
--- Always the first permitted move, and always another one.
+-- So many choices alike: always the first permitted move, or always the second if there are two.
+abbrev repeated : ℕ → ℕ → List ℕ
+repeated zero c = []
+repeated (suc n) c = c ∷ repeated n c
+
 abbrev pub first-choices : List ℕ
-first-choices = 0 ∷ 0 ∷ 0 ∷ 0 ∷ 0 ∷ 0 ∷ 0 ∷ 0 ∷ 0 ∷ 0 ∷ 0 ∷ 0 ∷ 0 ∷ []
+first-choices = repeated 16 0
 
 abbrev pub other-choices : List ℕ
-other-choices = 1 ∷ 1 ∷ 1 ∷ 1 ∷ 1 ∷ 1 ∷ 1 ∷ 1 ∷ 1 ∷ 1 ∷ 1 ∷ 1 ∷ 1 ∷ []
+other-choices = repeated 16 1

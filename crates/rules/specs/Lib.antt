@@ -22,5 +22,8 @@ pub mod Confluence
 pub mod ListingLaws
 pub mod GrantLaws
 pub mod Cases
+pub mod Contrasts
 pub mod Boards
 pub mod Denials
+pub mod Samples
+pub mod EffectLaws

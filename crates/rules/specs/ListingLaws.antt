@@ -38,6 +38,10 @@ Listing-ordered =
     → nth (listing t s n) j ≡ some l
     → Precedes (name-of m) (name-of l)
 
+abbrev pub Listing-once : Type 0
+Listing-once =
+    (t : Table) (s : State) (n i j : ℕ) (m : Move) → nth (listing t s n) i ≡ some m → nth (listing t s n) j ≡ some m → i ≡ j
+
 -- Every permitted move exists: rest by the listing is rest by the rules.
 abbrev pub Permitted-exists : Type 0
 Permitted-exists =
@@ -59,3 +63,7 @@ abbrev pub Verdict-moving : Type 0
 Verdict-moving =
     (t : Table) (s : State) (n : ℕ) → Sound t → Wf t s → Homes-inside t n
     → (verdict t n s ≡ Moving) ↔ ((s .at 0 ≡ finished → ⊥) × ((m : Move) × Permitted t s m))
+
+-- A finished board is at rest.
+abbrev pub Finished-rests : Type 0
+Finished-rests = (t : Table) (s : State) → Sound t → Wf t s → s .at 0 ≡ finished → Rests t s

@@ -6,6 +6,7 @@ pub mod cases;
 pub mod confluence;
 pub mod decisions;
 pub mod denials;
+pub mod effects;
 pub mod grants;
 pub mod listings;
 pub mod safety;

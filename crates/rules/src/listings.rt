@@ -3,11 +3,13 @@ ghost use Rattle.rules.specs.ListingLaws.{
   Names-tell,
   Listing-tells,
   Listing-ordered,
+  Listing-once,
   Permitted-exists,
   Rest-tells,
   Verdict-finished,
   Verdict-deadlock,
   Verdict-moving,
+  Finished-rests,
 };
 
 // A kind and two numbers name a move exactly if it exists and this is its name.
@@ -22,17 +24,19 @@ pub fn names_tell() -> u8
 pub fn listing_tells() -> u8
     ensures holds { λ _. ⌜ Listing-tells ⌝ }
     ensures ordered { λ _. ⌜ Listing-ordered ⌝ }
+    ensures once { λ _. ⌜ Listing-once ⌝ }
     ensures exists { λ _. ⌜ Permitted-exists ⌝ }
     ensures rest { λ _. ⌜ Rest-tells ⌝ }
 {
     0
 }
 
-// The verdict is finished if place 0 is, else deadlock at rest, else moving.
+// The verdict is finished if place 0 is, else deadlock at rest, else moving; a finished board is at rest.
 pub fn verdict_tells() -> u8
     ensures finished { λ _. ⌜ Verdict-finished ⌝ }
     ensures deadlock { λ _. ⌜ Verdict-deadlock ⌝ }
     ensures moving { λ _. ⌜ Verdict-moving ⌝ }
+    ensures rests { λ _. ⌜ Finished-rests ⌝ }
 {
     0
 }

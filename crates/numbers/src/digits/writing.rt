@@ -27,13 +27,15 @@ impl Digits {
         ensures bytes { λ r. ⌜ now r ≡ shown (now (self .entry)) ⌝ }
         ensures short { λ r. ⌜ length (now r) ≤ 11 ⌝ }
     {
-        &self.bytes[self.from..]
+        let (_, written) = self.bytes.split_at(self.from);
+        written
     }
 }
 
-// A number in decimal, without leading zeros.
+// A number in decimal, without leading zeros: at most ten digits, so that a byte is left for a sign.
 pub fn decimal_digits(n: u32) -> Digits
-    ensures { λ r. ⌜ shown r ≡ decimal n ⌝ }
+    ensures text { λ r. ⌜ shown r ≡ decimal n ⌝ }
+    ensures room { λ r. ⌜ 1 ≤ r .from ⌝ }
 {
     let mut bytes = [0; 11];
     let mut from = 10;
@@ -51,9 +53,16 @@ pub fn decimal_digits(n: u32) -> Digits
 pub fn negative_digits(n: u32) -> Digits
     ensures { λ r. ⌜ shown r ≡ 45 ∷ decimal n ⌝ }
 {
-    let digits = decimal_digits(n);
+    after_byte(b'-', decimal_digits(n))
+}
+
+// A byte, and then a written form that leaves room for it.
+fn after_byte(first: u8, digits: Digits) -> Digits
+    requires { ⌜ 1 ≤ digits .from ⌝ }
+    ensures { λ r. ⌜ shown r ≡ first ∷ shown digits ⌝ }
+{
     let mut bytes = digits.bytes;
     let from = digits.from - 1;
-    bytes[from] = b'-';
+    bytes[from] = first;
     Digits { bytes, from }
 }

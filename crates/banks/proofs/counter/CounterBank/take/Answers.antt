@@ -1,4 +1,3 @@
-use borrow.Author.Needs.{needs}
 use Rattle.banks.proofs.counter.CounterBank.take.Needs as need
 use native.Mathlib.Omega.{arith}
 use Rattle.std.proofs.shelf.Ways.{tells}

@@ -1,4 +1,3 @@
-use borrow.Author.Needs.{needs}
 use Rattle.banks.proofs.tape.TapeBank.take.Needs as need
 use native.Mathlib.Omega.{arith}
 use Rattle.std.proofs.shelf.Ways.{tells}
