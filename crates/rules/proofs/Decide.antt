@@ -10,15 +10,16 @@ use Rattle.rules.specs.Invariants.{Wf}
 use Rattle.rules.specs.Moves.{any-below}
 use Rattle.rules.specs.Permissions.{Permitted}
 use Rattle.rules.specs.Programs.{Table, awaits}
-use Rattle.rules.specs.Readiness.{KnowingChild, Waits, Ready, waits, parts, Spoiled, itself, no-child-knows, child-spoiled, Counted}
+use Rattle.rules.specs.Readiness.{counts-child, KnowingChild, Waits, Ready, waits, parts, Spoiled, itself, no-child-knows, child-spoiled, Counted}
 use Rattle.rules.specs.Soundness.{Sound}
 use Rattle.rules.specs.States.{State, Local, idle, running, parted, finished, poisoned, live, busy, isParted, isIdle, Mark, Move, step, close, meet, poison}
 use Rattle.rules.specs.Trees.{Climb, here, more, nonzero, Child}
 use Rattle.rules.specs.Tests.{all-below, child, knowing-child, for-home, no-next, ready-at, ready, is-zero, spoiled-at, spoiled, steps-at, closes-at, permitted}
-use Rattle.rules.specs.Theorems.{WaitsOrParts, Tests-tell, Counted-form}
+use Rattle.rules.specs.Decisions.{WaitsOrParts, Ready-or-spoiled, Ready-tells, Spoiled-tells, Counted-tells, Permitted-tells, Counted-form}
 use Rattle.lemmas.proofs.Tests.{T-and, and-T, T-or, or-l, or-r, T-dec, T-at, same?, eq-eqb, differ, some-none}
 use Rattle.rules.proofs.Locals.{busy-live, live-some}
-use Rattle.rules.proofs.Readiness.{ready-busy, ready-down, counted-child, spoiled-knows}
+use Rattle.rules.proofs.Tree.{climbs→, →climbs}
+use Rattle.rules.proofs.Readiness.{counts-out, spoiled-ready, ready-busy, ready-down, counted-child, spoiled-knows}
 
 any-out : (n : ℕ) (f : ℕ → Bool) → T (any-below n f) → (q : ℕ) × (q < n) × T (f q)
 any-out zero f h = absurd h
@@ -273,8 +274,23 @@ module _ (t : Table) (s : State) where
         (and-T (child t (t .parent p) (o .0)) _ (child-in (t .parent p) (o .0) (o .2))
         (and-T (live (s .at (o .0))) (spoiled t s h (t .places) (o .0)) (o .3) (spoiled-in sd wf h (o .4) (t .places) (omega arith))))))))
 
-pub tests-tell : Tests-tell
-tests-tell t s m sd wf = (told t s sd wf m, telling t s sd wf m)
+pub permitted-tells : Permitted-tells
+permitted-tells t s m sd wf = (told t s sd wf m, telling t s sd wf m)
+
+pub ready-tells : Ready-tells
+ready-tells t s h p sd wf = (ready-out t s sd wf h (t .places) p, λ r. ready-in t s sd wf h r (t .places) (omega arith))
+
+pub spoiled-tells : Spoiled-tells
+spoiled-tells t s h q sd wf = (spoiled-out t s sd wf h (t .places) q, λ r. spoiled-in t s sd wf h r (t .places) (omega arith))
+
+pub counted-tells : Counted-tells
+counted-tells t s h p q sd = (
+  climbs→ (t .parent) (counts-child t s h) p q q,
+  λ c. →climbs (t .parent) (counts-child t s h) p (λ v j. sd .lower v (counts-out t s h v j .2 .0)) c q (omega arith),
+)
+
+pub ready-or-spoiled : Ready-or-spoiled
+ready-or-spoiled t s h q r p = spoiled-ready t s h p r
 
 pub counted-form : Counted-form
 counted-form t s h p sd wf =

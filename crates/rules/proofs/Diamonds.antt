@@ -13,7 +13,7 @@ use Rattle.rules.specs.Permissions.{Permitted}
 use Rattle.rules.specs.Programs.{Table}
 use Rattle.rules.specs.Soundness.{Sound}
 use Rattle.rules.specs.States.{State, Local, Move, step, close, meet, poison}
-use Rattle.rules.specs.Theorems.{Diamond}
+use Rattle.rules.specs.Confluence.{Diamond}
 use Rattle.lemmas.proofs.Tests.{T-dec, T-false, look, is-none}
 use Rattle.rules.proofs.Commute.{Compatible, Apart, commute}
 use Rattle.rules.proofs.Places.{WritesPlace, ReadsPlace, writes→reads, places-disjoint, writes}
@@ -87,6 +87,7 @@ diamond k t s m n sd wf a b ne =
     let u = stable k t sd s wf m a n b ne in
     let v = stable k t sd s wf n b m a (λ e. ne (sym e)) in (
       u .0,
+      v .0,
       ap (λ e. apply e (made k t s m)) (u .1)
           ∙ commute (effect k t s n) (effect k t s m) s (apart k t sd s wf n m b a (λ e. ne (sym e)))
           ∙ ap (λ e. apply e (made k t s n)) (sym (v .1)),

@@ -18,7 +18,7 @@ use Rattle.rules.specs.Readiness.{Waits}
 use Rattle.rules.specs.Soundness.{Sound, Catches, Leads}
 use Rattle.rules.specs.States.{State, Local, idle, running, parted, finished, poisoned, live, busy, isParted, isIdle, Mark, lesser, Move, step, close, meet, poison, powered}
 use Rattle.rules.specs.Steps.{doing, Act, stay, pass, fork, raise, halt, act-at}
-use Rattle.rules.specs.Theorems.{Kept, At-power}
+use Rattle.rules.specs.Safety.{Kept, At-power}
 use Rattle.rules.specs.Trees.{nonzero, Child, Within}
 use Rattle.lemmas.proofs.Tests.{T-and, and-T, T-at, T-dec, T-false, T-true, differ, look, some-none, cond-some, cond-else, eq-eqb}
 use Rattle.rules.proofs.Locals.{busy-live, live-some, running-inj}

@@ -8,5 +8,16 @@ pub mod Cells
 pub mod Stable
 pub mod Diamonds
 pub mod Invariant
+pub mod Numbers
+pub mod Reached
 pub mod Runs
 pub mod Decide
+pub mod Lists
+pub mod Listed
+pub mod Names
+pub mod Verdicts
+pub mod Looks
+pub mod Granting
+pub mod Chosen
+pub mod Checked
+pub mod Denied

@@ -10,11 +10,12 @@ use Rattle.rules.specs.Permissions.{Permitted, Rests}
 use Rattle.rules.specs.Programs.{Table}
 use Rattle.rules.specs.Runs.{Run}
 use Rattle.rules.specs.Soundness.{Sound}
-use Rattle.rules.specs.States.{State, Move}
-use Rattle.rules.specs.Theorems.{One-end}
+use Rattle.rules.specs.States.{State, Move, powered}
+use Rattle.rules.specs.Confluence.{One-end, Same-end, Diamond-when-reached, One-end-when-reached, One-end-from-power}
 use Rattle.rules.proofs.Stable.{same-move?}
 use Rattle.rules.proofs.Diamonds.{diamond}
-use Rattle.rules.proofs.Invariant.{kept}
+use Rattle.rules.proofs.Invariant.{kept, at-power}
+use Rattle.rules.proofs.Reached.{reached-wf}
 
 -- a permitted move takes one from a run that comes to rest
 strip : (k : Meaning) (t : Table) (sd : Sound t) (n : ℕ) (s r : State) → Wf t s → Run k t s n r → Rests t r → (m : Move) → Permitted t s m
@@ -25,9 +26,8 @@ strip k t sd (suc n) s r wf run rests m a =
       | inl e ↦ (n, refl, subst (λ (v : Move). Run k t (made k t s v) n r) e (run .2))
       | inr ne ↦
           let d = diamond k t s (run .0) m sd wf (run .1) a ne in
-          let b = diamond k t s m (run .0) sd wf a (run .1) (λ e. ne (sym e)) in
           let i = strip k t sd n (made k t s (run .0)) r (kept k t s (run .0) sd wf (run .1)) (run .2) rests m (d .0) in
-          (suc (i .0), ap suc (i .1), (run .0, b .0, subst (λ (v : State). Run k t v (i .0) r) (d .1) (i .2)))
+          (suc (i .0), ap suc (i .1), (run .0, d .1, subst (λ (v : State). Run k t v (i .0) r) (d .2) (i .2)))
     ]
 
 at-rest : (k : Meaning) (t : Table) (n : ℕ) (s r : State) → Run k t s n r → Rests t s → (0 ≡ n) × (s ≡ r)
@@ -46,5 +46,27 @@ ends k t sd (suc j) n s r u wf run rests other =
     let f = i .1 in
     (i .0, omega arith, i .2, λ q. let b = i .3 q in (ap suc (b .0) ∙ sym e, b .1))
 
+-- a run that has used up the moves is at the end
+no-more : (k : Meaning) (t : Table) (i : ℕ) (u r : State) → i ≡ 0 → Run k t u i r → u ≡ r
+no-more k t zero u r e run = run
+no-more k t (suc i) u r e run = absurd (omega arith)
+
 pub one-end : One-end
-one-end k t s r u n j sd wf run rests other = ends k t sd j n s r u wf run rests other
+one-end k t s r u n j sd wf run rests other =
+    let a = ends k t sd j n s r u wf run rests other in
+    let e = a .1 in
+    let at-n : j ≡ n → u ≡ r = λ q. no-more k t (a .0) u r (omega arith) (a .2) in (
+      omega arith,
+      (λ q. a .3 q .0, λ q. subst (λ (v : State). Rests t v) (sym (at-n q)) rests),
+      at-n,
+      (a .0, a .1, a .2),
+    )
+
+pub reached-diamond : Diamond-when-reached
+reached-diamond k t w s m n sd x = diamond k t s m n sd (reached-wf k t w s sd x)
+
+pub reached-one-end : One-end-when-reached
+reached-one-end k t w s r u n j sd x = one-end k t s r u n j sd (reached-wf k t w s sd x)
+
+pub power-one-end : One-end-from-power
+power-one-end k t w r u n j sd = one-end k t (powered t w) r u n j sd (at-power t w sd)

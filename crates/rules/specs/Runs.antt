@@ -12,3 +12,7 @@ use Rattle.rules.specs.Moves.{made}
 abbrev pub Run : Meaning → Table → State → ℕ → State → Type 0
 Run k t s zero r = s ≡ r
 Run k t s (suc n) r = (m : Move) × Permitted t s m × Run k t (made k t s m) n r
+
+-- A state that a board comes to from power, by some run.
+abbrev pub Reached : Meaning → Table → (ℕ → List ℕ) → State → Type 0
+Reached k t w s = (n : ℕ) × Run k t (powered t w) n s

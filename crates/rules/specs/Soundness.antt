@@ -128,3 +128,7 @@ pub record Sound (t : Table) : Type 0 where
   pub touch-home : (x c : ℕ) → Touches (t .stm x) c → T (t .knows (t .place x) (t .home c)) ⊎ (t .place x ≡ t .declarer (t .home c))
   pub cells-apart : (x y c : ℕ) → Beside t (t .place x) (t .place y) → Touches (t .stm x) c → Touches (t .stm y) c → ⊥
   pub ports-apart : (x y i : ℕ) → Beside t (t .place x) (t .place y) → Takes (t .stm x) i → Takes (t .stm y) i → ⊥
+
+-- The homes that a program's nexts name are among the n cells of the board.
+abbrev pub Homes-inside : Table → ℕ → Type 0
+Homes-inside t n = (x c h : ℕ) → awaits (t .stm x) ≡ some (c, h) → h < n

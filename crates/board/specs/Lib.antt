@@ -1,0 +1,4 @@
+pub mod Effects
+pub mod Loops
+pub mod Scans
+pub mod Views
