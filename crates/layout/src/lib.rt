@@ -1,0 +1,6 @@
+// The last step of clearing: the unfolded text is laid out as the tables that a board reads.
+
+mod cells;
+mod counts;
+mod entries;
+mod sizes;
