@@ -3,3 +3,4 @@ pub mod Adding
 pub mod Gains
 pub mod Passes
 pub mod Weights
+pub mod Entries

@@ -1,5 +1,6 @@
 // The fourth and fifth stages of clearing: the text is unfolded, and what its branches share is checked.
 
+mod after;
 mod counts;
 mod exprs;
 mod gets;
