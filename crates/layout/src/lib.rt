@@ -3,4 +3,5 @@
 mod cells;
 mod counts;
 mod entries;
+mod places;
 mod sizes;
