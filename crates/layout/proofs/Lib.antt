@@ -1,3 +1,4 @@
 pub mod Bringing
+pub mod Giving
 pub mod Joining
 pub mod Placing

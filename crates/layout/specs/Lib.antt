@@ -1,2 +1,3 @@
 pub mod Fits
+pub mod Given
 pub mod Rows

@@ -3,5 +3,6 @@
 mod cells;
 mod counts;
 mod entries;
+mod given;
 mod places;
 mod sizes;
