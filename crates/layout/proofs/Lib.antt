@@ -1,4 +1,5 @@
 pub mod Bringing
+pub mod Copying
 pub mod Giving
 pub mod Joining
 pub mod Placing

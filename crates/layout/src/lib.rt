@@ -3,6 +3,8 @@
 mod cells;
 mod counts;
 mod entries;
+mod exprs;
 mod given;
 mod places;
 mod sizes;
+mod stmts;
