@@ -1,3 +1,4 @@
 pub mod Fits
 pub mod Given
+pub mod Opens
 pub mod Rows

@@ -7,4 +7,6 @@ mod exprs;
 mod given;
 mod places;
 mod sizes;
+mod spelling;
 mod stmts;
+mod tries;
