@@ -25,3 +25,12 @@ pub thirdly : {U V W A X Y : Type 0} (E : W → List A) (F : U → List A) (G : 
 thirdly E F G N q n w w′ u u′ u″ v v′ r was fst mid end whole e h i j k m o p z =
     joined r was fst end (E w) (F u ++ G v (q + N u)) whole e (o ∙ ap (λ x. was ++ E x) h)
     (next F G N q n u u′ u″ v v′ r fst mid end (F u ++ G v (q + N u)) refl i j k m p z)
+
+-- and from o by how many statements it has
+pub further : {U V A X Y : Type 0} (F : U → List A) (G : V → ℕ → ℕ → List A) (N S : U → ℕ) (q n o s : ℕ) (u u′ u″ u‴ : U) (v v′ : V) (r : Result X Y) (was mid end whole : List A)
+    → whole ≡ F u ++ G v (q + N u) (o + S u) → u′ ≡ u → u″ ≡ u → u‴ ≡ u → v′ ≡ v → n ≡ N u″ → s ≡ S u‴ → mid ≡ was ++ F u′
+    → made r (λ _. end ≡ mid ++ G v′ (q + n) (o + s)) → made r (λ _. end ≡ was ++ whole)
+further F G N S q n o s u u′ u″ u‴ v v′ r was mid end whole e i j l k m z p =
+    joined r was mid end (F u′) (G v′ (q + n) (o + s)) whole
+    (e ∙ ap (λ x. F x ++ G v (q + N u) (o + S u)) (sym i) ∙ ap (λ y. F u′ ++ G y (q + N u) (o + S u)) (sym k)
+    ∙ ap (λ a. F u′ ++ G v′ (q + a) (o + S u)) (ap N (sym j) ∙ sym m) ∙ ap (λ b. F u′ ++ G v′ (q + n) (o + b)) (ap S (sym l) ∙ sym z)) p

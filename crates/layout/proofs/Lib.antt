@@ -1,2 +1,6 @@
 pub mod Bringing
+pub mod Copying
+pub mod Giving
 pub mod Joining
+pub mod Nearest
+pub mod Placing

@@ -1,2 +1,4 @@
 pub mod Fits
+pub mod Given
+pub mod Opens
 pub mod Rows

@@ -3,4 +3,10 @@
 mod cells;
 mod counts;
 mod entries;
+mod exprs;
+mod given;
+mod places;
 mod sizes;
+mod spelling;
+mod stmts;
+mod tries;
