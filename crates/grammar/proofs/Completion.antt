@@ -75,7 +75,8 @@ use Rattle.grammar.specs.Language.{
   Block-is,
 }
 use Rattle.grammar.proofs.Levels.{sign-is, name-here}
-use Rattle.grammar.proofs.ProgramGrammar.{statement-shrinks, block-shrinks, block-less}
+use Rattle.grammar.proofs.StatementGrammar.{statement-shrinks}
+use Rattle.grammar.proofs.BlockGrammar.{block-shrinks, block-less}
 use Rattle.grammar.proofs.Fine.{
   Reading,
   Fine,

@@ -15,3 +15,8 @@ pub mod Fine
 pub mod Begun
 pub mod Completion
 pub mod Continued
+pub mod NameGrammar
+pub mod StatementGrammar
+pub mod BlockGrammar
+pub mod LocalExpressions
+pub mod LocalStatements
