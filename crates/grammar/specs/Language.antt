@@ -177,7 +177,7 @@ Program-is = Program-within 16
 abbrev pub Parsed-exactly : Type 0
 Parsed-exactly = (ts : Tokens) (t : Tree) → (parsed ts ≡ Ok t) ↔ Program-is t ts
 
--- the Err token is the first that goes wrong: no derivable text begins as the text does up to it, that token too
+-- the refused token is the first that goes wrong: no derivable text begins as the text does up to it and with it
 abbrev pub Refused-early : Type 0
 Refused-early =
     (ts : Tokens) (x : Fault) → parsed ts ≡ Err x
