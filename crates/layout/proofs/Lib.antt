@@ -4,3 +4,4 @@ pub mod Giving
 pub mod Joining
 pub mod Nearest
 pub mod Placing
+pub mod Sharing

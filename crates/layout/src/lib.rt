@@ -5,6 +5,7 @@ mod counts;
 mod entries;
 mod exprs;
 mod given;
+mod pars;
 mod places;
 mod sizes;
 mod spelling;
