@@ -16,13 +16,13 @@ pub near-here : (text w : List ℕ) (bs : List code-held.Held) (i : ℕ) (d : co
     → true ≡ same w (held text (getD bs i d) .name) → nearest w (all-held text (drop i bs)) ≡ Some (held text (getD bs i d))
 near-here text w bs i d h e =
     at-drop-more (λ (cs : List code-held.Held). nearest w (all-held text cs)) bs i d h
-      ∙ ap (λ (b : Bool). elim b [ true ↦ Some (held text (getD bs i d)) | false ↦ nearest w (all-held text (drop (i + 1) bs)) ]) (sym e)
+    ∙ ap (λ (b : Bool). elim b [ true ↦ Some (held text (getD bs i d)) | false ↦ nearest w (all-held text (drop (i + 1) bs)) ]) (sym e)
 
 pub near-on : (text w : List ℕ) (bs : List code-held.Held) (i : ℕ) (d : code-held.Held) → i < length bs
     → false ≡ same w (held text (getD bs i d) .name) → nearest w (all-held text (drop i bs)) ≡ nearest w (all-held text (drop (i + 1) bs))
 near-on text w bs i d h e =
     at-drop-more (λ (cs : List code-held.Held). nearest w (all-held text cs)) bs i d h
-      ∙ ap (λ (b : Bool). elim b [ true ↦ Some (held text (getD bs i d)) | false ↦ nearest w (all-held text (drop (i + 1) bs)) ]) (sym e)
+    ∙ ap (λ (b : Bool). elim b [ true ↦ Some (held text (getD bs i d)) | false ↦ nearest w (all-held text (drop (i + 1) bs)) ]) (sym e)
 
 pub near-end : (text w : List ℕ) (bs : List code-held.Held) (i : ℕ) → length bs ≤ i → nearest w (all-held text (drop i bs)) ≡ None
 near-end text w bs i h = at-drop-all (λ (cs : List code-held.Held). nearest w (all-held text cs)) bs i h

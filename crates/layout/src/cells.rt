@@ -42,12 +42,23 @@ fn push_news(text: &[u8], out: &mut Vec<Cell>, p: u16, news: &[New]) -> Result<(
 {
     for n in news {
         let len = name_length(text, n.name);
-        out.push(Cell { home: n.home as u16, declarer: p, at: n.name.at, len })?;
+        out.push(Cell {
+            home: n.home as u16,
+            declarer: p,
+            at: n.name.at,
+            len,
+        })?;
     }
     Ok(())
 }
 
-fn push_node_cells(text: &[u8], out: &mut Vec<Cell>, p: u16, u: &Node, q: u16) -> Result<(), AllocError>
+fn push_node_cells(
+    text: &[u8],
+    out: &mut Vec<Cell>,
+    p: u16,
+    u: &Node,
+    q: u16,
+) -> Result<(), AllocError>
     requires fit { ⌜ node-fits (node (now text) (now u)) ≡ true ⌝ }
     requires few { ⌜ q + node-places (node (now text) (now u)) ≤ 64 ⌝ }
     ensures { λ r. ⌜ made r (λ _. cell-rows (vec-items (now (out .exit))) ≡ cell-rows (vec-items (now (out .entry))) ++ node-cells p (node (now (text .entry)) (now (u .entry))) q) ⌝ }
@@ -68,7 +79,13 @@ fn push_node_cells(text: &[u8], out: &mut Vec<Cell>, p: u16, u: &Node, q: u16) -
 }
 
 // The cells of a block of the place p, where q is the next place.
-pub fn push_cells(text: &[u8], out: &mut Vec<Cell>, p: u16, us: &Nodes, q: u16) -> Result<(), AllocError>
+pub fn push_cells(
+    text: &[u8],
+    out: &mut Vec<Cell>,
+    p: u16,
+    us: &Nodes,
+    q: u16,
+) -> Result<(), AllocError>
     requires fit { ⌜ fits (meant (now text) (now us)) ≡ true ⌝ }
     requires few { ⌜ q + how-many (meant (now text) (now us)) ≤ 64 ⌝ }
     ensures { λ r. ⌜ made r (λ _. cell-rows (vec-items (now (out .exit))) ≡ cell-rows (vec-items (now (out .entry))) ++ brought p (meant (now (text .entry)) (now (us .entry))) q) ⌝ }
@@ -82,7 +99,12 @@ pub fn push_cells(text: &[u8], out: &mut Vec<Cell>, p: u16, us: &Nodes, q: u16) 
     }
 }
 
-fn push_branch_cells(text: &[u8], out: &mut Vec<Cell>, branches: &Branches, q: u16) -> Result<(), AllocError>
+fn push_branch_cells(
+    text: &[u8],
+    out: &mut Vec<Cell>,
+    branches: &Branches,
+    q: u16,
+) -> Result<(), AllocError>
     requires fit { ⌜ branches-fit (all (now text) (now branches)) ≡ true ⌝ }
     requires few { ⌜ q + branch-places (all (now text) (now branches)) ≤ 64 ⌝ }
     ensures { λ r. ⌜ made r (λ _. cell-rows (vec-items (now (out .exit))) ≡ cell-rows (vec-items (now (out .entry))) ++ branch-cells (all (now (text .entry)) (now (branches .entry))) q) ⌝ }

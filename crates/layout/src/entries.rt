@@ -17,7 +17,11 @@ fn node_entry(text: &[u8], u: &Node, o: u16, k: u16) -> u16
         Node::Throws(_, _) => o,
         Node::Two(_, _, part, first, _) => match part {
             Part::Plain => entry(text, first, o + 1, k),
-            Part::Calls(_, _) | Part::Tests(_) | Part::Loops(_) | Part::Tries(_) | Part::Takes(_, _) => o,
+            Part::Calls(_, _)
+            | Part::Tests(_)
+            | Part::Loops(_)
+            | Part::Tries(_)
+            | Part::Takes(_, _) => o,
         },
         Node::Par(_, _, _) => o,
     }

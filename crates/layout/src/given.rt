@@ -24,7 +24,10 @@ fn push_got(text: &[u8], out: &mut Vec<Got>, q: u16, gots: &[nodes::Got]) -> Res
     ensures { λ r. ⌜ made r (λ _. vec-items (now (out .exit)) ≡ vec-items (now (out .entry)) ++ given q (variables (now (text .entry)) (now (gots .entry)))) ⌝ }
 {
     for g in gots {
-        out.push(Got { place: q, home: g.home as u16 })?;
+        out.push(Got {
+            place: q,
+            home: g.home as u16,
+        })?;
     }
     Ok(())
 }
@@ -60,7 +63,12 @@ pub fn push_given(text: &[u8], out: &mut Vec<Got>, us: &Nodes, q: u16) -> Result
     }
 }
 
-fn push_branches_given(text: &[u8], out: &mut Vec<Got>, branches: &Branches, q: u16) -> Result<(), AllocError>
+fn push_branches_given(
+    text: &[u8],
+    out: &mut Vec<Got>,
+    branches: &Branches,
+    q: u16,
+) -> Result<(), AllocError>
     requires fit { ⌜ branches-fit (all (now text) (now branches)) ≡ true ⌝ }
     requires few { ⌜ q + branch-places (all (now text) (now branches)) ≤ 64 ⌝ }
     ensures { λ r. ⌜ made r (λ _. vec-items (now (out .exit)) ≡ vec-items (now (out .entry)) ++ branches-given (all (now (text .entry)) (now (branches .entry))) q) ⌝ }

@@ -14,7 +14,8 @@ pub fn node_statements(text: &[u8], u: &Node) -> u16
     match u {
         Node::One(_, _, _) => 1,
         Node::Throws(_, _) => 1,
-        Node::Two(_, _, _, first, second) => 1 + (statements(text, first) + statements(text, second)),
+        Node::Two(_, _, _, first, second) => 1
+            + (statements(text, first) + statements(text, second)),
         Node::Par(_, _, branches) => 1 + branch_statements(text, branches),
     }
 }

@@ -30,7 +30,14 @@ pub fn action_stmt(heap: Global, action: &Action) -> Result<Stmt, AllocError>
 }
 
 // What stands before blocks, where the first block is entered at i, the second at j, and k is after the statement.
-pub fn part_stmt(text: &[u8], heap: Global, part: &Part, i: u16, j: u16, k: u16) -> Result<Stmt, AllocError>
+pub fn part_stmt(
+    text: &[u8],
+    heap: Global,
+    part: &Part,
+    i: u16,
+    j: u16,
+    k: u16,
+) -> Result<Stmt, AllocError>
     requires { ⌜ part-fits (meant (now text) (now part)) ≡ true ⌝ }
     ensures { λ r. ⌜ made r (λ s. ((q : ℕ) → stm q s ≡ part-stm (meant (now (text .entry)) (now (part .entry))) i j k)) ⌝ }
 {

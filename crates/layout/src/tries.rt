@@ -58,7 +58,13 @@ pub fn leads_to(text: &[u8], part: &Part, o: u16, k: u16) -> u16
 }
 
 // The catch blocks of the tries that are open in the first block, where j is the second.
-pub fn inner_catches(text: &[u8], heap: Global, part: &Part, j: u16, catches: &[u16]) -> Result<Vec<u16>, AllocError>
+pub fn inner_catches(
+    text: &[u8],
+    heap: Global,
+    part: &Part,
+    j: u16,
+    catches: &[u16],
+) -> Result<Vec<u16>, AllocError>
     ensures { λ r. ⌜ made r (λ v. vec-items v ≡ part-catches (meant (now (text .entry)) (now (part .entry))) j (now (catches .entry))) ⌝ }
 {
     let mut out: Vec<u16> = catches.iter().copied().collect(heap)?;
@@ -67,12 +73,22 @@ pub fn inner_catches(text: &[u8], heap: Global, part: &Part, j: u16, catches: &[
             out.push(j)?;
             Ok(out)
         }
-        Part::Plain | Part::Calls(_, _) | Part::Tests(_) | Part::Loops(_) | Part::Takes(_, _) => Ok(out),
+        Part::Plain | Part::Calls(_, _) | Part::Tests(_) | Part::Loops(_) | Part::Takes(_, _) => Ok(
+            out,
+        ),
     }
 }
 
 // The tries that are open in the first block.
-pub fn inner_tries(text: &[u8], heap: Global, part: &Part, p: u16, j: u16, catches: &[u16], tries: &[Held]) -> Result<Vec<Held>, AllocError>
+pub fn inner_tries(
+    text: &[u8],
+    heap: Global,
+    part: &Part,
+    p: u16,
+    j: u16,
+    catches: &[u16],
+    tries: &[Held],
+) -> Result<Vec<Held>, AllocError>
     requires { ⌜ length (now catches) ≤ 1024 ⌝ }
     ensures { λ r. ⌜ made r (λ v. all-held (now (text .entry)) (vec-items v) ≡ part-opens (meant (now (text .entry)) (now (part .entry))) p j (now (catches .entry)) (all-held (now (text .entry)) (now (tries .entry)))) ⌝ }
 {
@@ -80,7 +96,12 @@ pub fn inner_tries(text: &[u8], heap: Global, part: &Part, p: u16, j: u16, catch
     match part {
         Part::Tries(n) => {
             let number = catches.len() as u16 + 1;
-            out.push(Held { name: *n, place: p, number, catch: j })?;
+            out.push(Held {
+                name: *n,
+                place: p,
+                number,
+                catch: j,
+            })?;
             out.extend_from_slice(tries)?;
             Ok(out)
         }

@@ -10,4 +10,3 @@ mod vars;
 mod whole;
 
 pub use crate::whole::check_names;
-

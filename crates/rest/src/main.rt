@@ -78,7 +78,12 @@ fn show_tokens(rt: &LibcRuntime, text: &[u8], tokens: &[Token]) -> Result<(), An
 }
 
 // What a literal reads as in a kind, or `-` where it has no reading.
-fn show_reading<K: NumberKind>(rt: &LibcRuntime, kind: &K, name: &str, digits: &[u8]) -> Result<(), AnyError> {
+fn show_reading<K: NumberKind>(
+    rt: &LibcRuntime,
+    kind: &K,
+    name: &str,
+    digits: &[u8],
+) -> Result<(), AnyError> {
     match read_literal(kind, digits) {
         Some(word) => {
             let digits = kind.written(word);
@@ -105,7 +110,13 @@ fn total<K: NumberKind, B: Bank>(kind: &K, bank: &mut B, port: u32, most: usize)
 }
 
 // The literals that have a reading become a tape at port 0, and a counter gives as many words at port 1.
-fn show_sums<K: NumberKind>(rt: &LibcRuntime, kind: &K, name: &str, text: &[u8], tokens: &[Token]) -> Result<(), AnyError> {
+fn show_sums<K: NumberKind>(
+    rt: &LibcRuntime,
+    kind: &K,
+    name: &str,
+    text: &[u8],
+    tokens: &[Token],
+) -> Result<(), AnyError> {
     let mut words = Vec::new(rt.alloc());
     for token in tokens {
         if let Tag::Number = token.tag {

@@ -15,11 +15,12 @@ pub loop-n-again : need.loop-n-again
 loop-n-again c =
     let text = c .args .text .now in
     let d : code-new.New = record { home = 0; name = record { at = 0; len = 0 } } in
-    let was = vec-items (c .loop-n .out) in
-    (bring-more text (c .args .p) was (vec-items (c .push .last .self)) (c .args .news .now) (c .loop-n .n-index) d (c .name-length-len .result) (c .loop-n-test .taken)
-    (c .name-length-len .ensures) (pushed {was = was} _ refl (c .in-Continue-push .was tt) (c .push .ensures .items))
-    ∙ c .loop-n .inv .0,
-    fit-here text (c .args .news .now) (c .loop-n .n-index) d (c .loop-n-test .taken) (c .loop-n .inv .1) .1)
+    let was = vec-items (c .loop-n .out) in (
+      bring-more text (c .args .p) was (vec-items (c .push .last .self)) (c .args .news .now) (c .loop-n .n-index) d (c .name-length-len .result) (c .loop-n-test .taken)
+          (c .name-length-len .ensures) (pushed {was = was} _ refl (c .in-Continue-push .was tt) (c .push .ensures .items))
+          ∙ c .loop-n .inv .0,
+      fit-here text (c .args .news .now) (c .loop-n .n-index) d (c .loop-n-test .taken) (c .loop-n .inv .1) .1,
+    )
 
 pub returns : need.returns
 returns c =

@@ -12,5 +12,5 @@ use Rattle.layout.proofs.cells.push_news.Given as given
 abbrev pub Inv-loop-n : given.InvT-loop-n
 Inv-loop-n l =
     (cell-rows (vec-items (l .out)) ++ cells-of (l .p) (news (l .text) (drop (l .n-index) (l .news)))
-      ≡ cell-rows (vec-items (l .entry .out)) ++ cells-of (l .p) (news (l .text) (l .news)))
+    ≡ cell-rows (vec-items (l .entry .out)) ++ cells-of (l .p) (news (l .text) (l .news)))
     × (news-fit (news (l .text) (drop (l .n-index) (l .news))) ≡ true)

@@ -21,11 +21,12 @@ cast-from c =
 
 pub loop-t-again : need.loop-t-again
 loop-t-again c =
-    let was = vec-items (c .loop-t .out) in
-    (copy-more was (vec-items (c .push .last .self)) (c .args .transfers .now) (c .loop-t .t-index) none (c .loop-t-test .taken)
-    (pushed {was = was} _ refl (c .in-Continue-push .was tt) (c .push .ensures .items))
-    ∙ c .loop-t .inv .0,
-    copy-here (c .args .transfers .now) (c .loop-t .t-index) none (c .loop-t-test .taken) (c .loop-t .inv .1) .2)
+    let was = vec-items (c .loop-t .out) in (
+      copy-more was (vec-items (c .push .last .self)) (c .args .transfers .now) (c .loop-t .t-index) none (c .loop-t-test .taken)
+          (pushed {was = was} _ refl (c .in-Continue-push .was tt) (c .push .ensures .items))
+          ∙ c .loop-t .inv .0,
+      copy-here (c .args .transfers .now) (c .loop-t .t-index) none (c .loop-t-test .taken) (c .loop-t .inv .1) .2,
+    )
 
 pub returns : need.returns
 returns c = copy-end (vec-items (c .loop-t .out)) (c .args .transfers .now) (c .loop-t .t-index) (c .loop-t-test .left) ∙ c .loop-t .inv .0

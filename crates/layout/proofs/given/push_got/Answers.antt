@@ -18,11 +18,12 @@ cast-g c =
 pub loop-g-again : need.loop-g-again
 loop-g-again c =
     let text = c .args .text .now in
-    let was = vec-items (c .loop-g .out) in
-    (give-more text (c .args .q) was (vec-items (c .push .last .self)) (c .args .gots .now) (c .loop-g .g-index) no-got (c .loop-g-test .taken)
-    (pushed {was = was} _ refl (c .in-Continue-push .was tt) (c .push .ensures .items))
-    ∙ c .loop-g .inv .0,
-    got-here text (c .args .gots .now) (c .loop-g .g-index) no-got (c .loop-g-test .taken) (c .loop-g .inv .1) .1)
+    let was = vec-items (c .loop-g .out) in (
+      give-more text (c .args .q) was (vec-items (c .push .last .self)) (c .args .gots .now) (c .loop-g .g-index) no-got (c .loop-g-test .taken)
+          (pushed {was = was} _ refl (c .in-Continue-push .was tt) (c .push .ensures .items))
+          ∙ c .loop-g .inv .0,
+      got-here text (c .args .gots .now) (c .loop-g .g-index) no-got (c .loop-g-test .taken) (c .loop-g .inv .1) .1,
+    )
 
 pub returns : need.returns
 returns c =
