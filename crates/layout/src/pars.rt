@@ -20,7 +20,12 @@ use tables::stmt::Stmt;
 use unfold::nodes::Branches;
 use unfold::nodes::Got;
 
-fn push_numbers(text: &[u8], out: &mut Vec<u16>, branches: &Branches, q: u16) -> Result<(), AllocError>
+fn push_numbers(
+    text: &[u8],
+    out: &mut Vec<u16>,
+    branches: &Branches,
+    q: u16,
+) -> Result<(), AllocError>
     requires { ⌜ q + branch-places (all (now text) (now branches)) ≤ 64 ⌝ }
     ensures { λ r. ⌜ made r (λ _. vec-items (now (out .exit)) ≡ vec-items (now (out .entry)) ++ branch-list (all (now (text .entry)) (now (branches .entry))) q) ⌝ }
 {
@@ -59,7 +64,11 @@ fn push_copies(text: &[u8], out: &mut Vec<Copied>, gots: &[Got]) -> Result<(), A
     Ok(())
 }
 
-fn push_branch_copies(text: &[u8], out: &mut Vec<Copied>, branches: &Branches) -> Result<(), AllocError>
+fn push_branch_copies(
+    text: &[u8],
+    out: &mut Vec<Copied>,
+    branches: &Branches,
+) -> Result<(), AllocError>
     requires { ⌜ branches-fit (all (now text) (now branches)) ≡ true ⌝ }
     ensures { λ r. ⌜ made r (λ _. rows (vec-items (now (out .exit))) ≡ rows (vec-items (now (out .entry))) ++ branch-copies (all (now (text .entry)) (now (branches .entry)))) ⌝ }
 {

@@ -14,11 +14,12 @@ push-copy-requires c κs = own-fits (c .args .text .now) (c .args .gots .now) (c
 
 pub loop-g-again : need.loop-g-again
 loop-g-again c =
-    let text = c .args .text .now in
-    (own-more text (copies (vec-items (c .loop-g .out))) (copies (vec-items (c .push-copy .last .out))) (c .args .gots .now) (c .loop-g .g-index) no-got (c .loop-g-test .taken)
-    (c .in-Continue-push-copy .ensures tt)
-    ∙ c .loop-g .inv .0,
-    own-fits text (c .args .gots .now) (c .loop-g .g-index) no-got (c .loop-g-test .taken) (c .loop-g .inv .1) .1)
+    let text = c .args .text .now in (
+      own-more text (copies (vec-items (c .loop-g .out))) (copies (vec-items (c .push-copy .last .out))) (c .args .gots .now) (c .loop-g .g-index) no-got (c .loop-g-test .taken)
+          (c .in-Continue-push-copy .ensures tt)
+          ∙ c .loop-g .inv .0,
+      own-fits text (c .args .gots .now) (c .loop-g .g-index) no-got (c .loop-g-test .taken) (c .loop-g .inv .1) .1,
+    )
 
 pub returns : need.returns
 returns c =
