@@ -16,19 +16,20 @@ use Rattle.lemmas.proofs.Tests.{T-true, T-false, T-and}
 use Rattle.reader.specs.declared.fault.Cause.the-variants.{NotVisible, OverLimit}
 use Rattle.reader.specs.declared.fault.Fault.{Fault}
 use Rattle.reader.specs.declared.fault.Error.{Error}
-use Rattle.reader.specs.Faults.{Answer, refuse, must, _>>=_}
+use Rattle.reader.specs.declared.fault.Error.the-variants.{Refused, OutOfMemory}
+use Rattle.reader.specs.Faults.{Answer, Meets, refuse, must, _>>=_}
 use Rattle.grammar.specs.declared.tree.Param as code-param
 use Rattle.grammar.specs.declared.tree.Proc as code-proc
-use Rattle.grammar.specs.Trees.{Name, Call, Par, Block, Blocks, Param, Proc}
+use Rattle.grammar.specs.Trees.{Name, Stm, Call, Par, Block, Blocks, Also, Param, Proc}
 use Rattle.grammar.specs.Views.{name, names, params, block}
 use Rattle.names.specs.Naming.{Reading}
 use Rattle.names.specs.Scopes.{ended}
 use Rattle.unfold.specs.declared.nodes.New as code-new
 use Rattle.unfold.specs.Unfolded.{New, Got, Node, Nodes, Branches, calls, two, par, nil}
 use Rattle.unfold.specs.Scopes.{Env, found}
-use Rattle.unfold.specs.Variables.{Params-of, all-get, all-new}
+use Rattle.unfold.specs.Variables.{Params-of, uses-block, gets, got-new, all-get, all-new}
 use Rattle.unfold.specs.Unfolding.{Count, Callee, brings, branch-count, callees, params-of, passes, unfold-simple, unfold-stm, unfold-block, unfold-blocks}
-use Rattle.unfold.specs.Calls.{callee-at, Found-at, entered}
+use Rattle.unfold.specs.Calls.{callee-at, Found-at, entered, parted}
 use Rattle.unfold.specs.Occurrences.{visible-params}
 use Rattle.unfold.specs.Views.{news, new, Gives}
 use Rattle.unfold.proofs.Adding.{visible-is}
@@ -107,3 +108,36 @@ par-step l ps v n at bs =
     let f : _≡_ {A = Params-of} (λ x. params-of (callees l ps x)) (visible-params ps) = fun-ext (λ x. visible-is l ps x) in
     ap (λ (g : Params-of). F (all-get g v bs (n .cells)) (all-new (all-get g v bs (n .cells)))) f
     ∙ ap (λ (ns : List New). F (all-get (visible-params ps) v bs (n .cells)) ns) (all-new-any (visible-params ps) v bs (n .cells) 0)
+
+-- a par that fits: the new cells of the other branches are numbered after those of the first
+pub blocks-fit : (f : Params-of) (v : Env) (a : Block) (bs : Blocks) (first next : ℕ) (gs : List Got)
+    → first + length (all-new (all-get f v (Also a bs) first)) ≤ 128 → gs ≡ gets v (uses-block f a) (uses-block f a) [] first → next ≡ first + length (got-new gs)
+    → next + length (all-new (all-get f v bs next)) ≤ 128
+blocks-fit f v a bs first next gs h e k =
+    let g = gets v (uses-block f a) (uses-block f a) [] first in
+    let n = first + length (got-new g) in
+    let i : next ≡ n = k ∙ ap (λ (z : List Got). first + length (got-new z)) e in
+    let l = length-append (got-new g) (all-new (all-get f v bs n)) in
+    let j = ap (λ (z : ℕ). length (all-new (all-get f v bs z))) i in
+    omega arith
+
+pub also-fits : (f : Params-of) (v : Env) (a : Block) (bs : Blocks) (first : ℕ) → first + length (all-new (all-get f v (Also a bs) first)) ≤ 128 → first ≤ 128
+also-fits f v a bs first h = omega arith
+
+pub par-gives : {V : Type 0} (f : V → Node × Count) (r : Result V Error) (l : Reading) (ps : List Proc) (v : Env) (n : Count) (at : ℕ) (bs : Blocks) (s : Stm) → s ≡ Par at bs
+    → Gives f r (parted l ps v n at bs) → Gives f r (unfold-stm l (callees l ps) v n s)
+par-gives {V} f r l ps v n at bs s e g =
+    subst (λ (z : Answer (Node × Count)). Gives f r z) (sym (ap (λ (z : Stm). unfold-stm l (callees l ps) v n z) e ∙ par-step l ps v n at bs)) g
+
+pub par-fits : (n m : Count) (k at : ℕ) (f : Params-of) (v : Env) (bs : Blocks) (ns : List New) → brings n k (length ns) at ≡ Ok m → m .cells ≤ 128 → ns ≡ all-new (all-get f v bs 0)
+    → n .cells + length (all-new (all-get f v bs (n .cells))) ≤ 128
+par-fits n m k at f v bs ns b h e =
+    let i = brings-cells n m k (length ns) at b in
+    let j = ap length e in
+    let l = ap length (all-new-any f v bs (n .cells) 0) in
+    omega arith
+
+pub gives-meets : {A V : Type 0} (f : V → A) (r : Result V Error) (d : Answer A) → Gives f r d → Meets (λ v a. f v ≡ a) r d
+gives-meets {A} {V} f (Ok v) d g = subst (λ (z : Answer A). Meets (λ (v : V) (a : A). f v ≡ a) (Ok v) z) (sym g) refl
+gives-meets {A} {V} f (Err (Refused x)) d g = subst (λ (z : Answer A). Meets (λ (v : V) (a : A). f v ≡ a) (Err (Refused x)) z) (sym g) refl
+gives-meets {A} {V} f (Err OutOfMemory) d g = tt

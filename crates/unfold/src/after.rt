@@ -3,10 +3,13 @@ ghost use mathlib.Core.Path.{_≡_};
 ghost use mathlib.Core.List.{List};
 ghost use Prim.Native.Nat.{ℕ, _-_, _^_, min};
 ghost use Rattle.std.specs.Of.Vec.{vec-items};
+ghost use lib.ListN.{length};
 ghost use Rattle.grammar.specs.Views.{stm, blocks};
-ghost use Rattle.unfold.specs.Unfolding.{branch-count, env-after};
-ghost use Rattle.unfold.specs.Views.{env, count, Builds};
+ghost use Rattle.unfold.specs.Unfolding.{branch-count, brings, env-after};
+ghost use Rattle.unfold.specs.Views.{env, count, news as new-cells, Builds, Gives};
 use crate::counts::Count;
+use crate::limits::bring;
+use crate::nodes::New;
 use crate::scopes::Binding;
 use crate::scopes::declare;
 use grammar::tree::Blocks;
@@ -63,4 +66,24 @@ pub fn bindings_after(
         Stmt::Two(_, _, _, _) => copied(heap, bindings),
         Stmt::Par(_, _) => copied(heap, bindings),
     }
+}
+
+// What a call brings.
+pub fn bring_call(text: &[u8], n: Count, news: &Vec<New>, at: usize) -> Result<Count, Error>
+    ensures { λ r. ⌜ Gives count r (brings (count n) 0 (length (new-cells (now (text .entry)) (vec-items (now (news .entry))))) at) ⌝ }
+{
+    bring(n, 0, news.len(), at)
+}
+
+// What a par brings.
+pub fn bring_par(
+    text: &[u8],
+    n: Count,
+    bs: &Blocks,
+    news: &Vec<New>,
+    at: usize,
+) -> Result<Count, Error>
+    ensures { λ r. ⌜ Gives count r (brings (count n) (branch-count (blocks (now (text .entry)) (now (bs .entry)))) (length (new-cells (now (text .entry)) (vec-items (now (news .entry))))) at) ⌝ }
+{
+    bring(n, count_branches(bs), news.len(), at)
 }

@@ -11,4 +11,5 @@ mod passing;
 mod procs;
 mod scopes;
 mod spelling;
+pub mod unfolding;
 mod uses;
