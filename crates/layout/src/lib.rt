@@ -7,6 +7,7 @@ mod exprs;
 mod given;
 mod pars;
 mod places;
+mod points;
 mod sizes;
 mod spelling;
 mod stmts;
