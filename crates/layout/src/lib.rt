@@ -2,6 +2,7 @@
 
 mod cells;
 mod counts;
+mod ends;
 mod entries;
 mod exprs;
 mod given;

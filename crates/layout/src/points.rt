@@ -40,7 +40,7 @@ fn copy_list(heap: Global, list: &[u16]) -> Result<Vec<u16>, AllocError>
     list.iter().copied().collect(heap)
 }
 
-fn push_point(heap: Global, out: &mut Vec<Point>, stmt: Stmt, after: u16, place: u16, catches: &[u16], offset: usize) -> Result<(), AllocError>
+pub fn push_point(heap: Global, out: &mut Vec<Point>, stmt: Stmt, after: u16, place: u16, catches: &[u16], offset: usize) -> Result<(), AllocError>
     ensures { λ r. ⌜ made r (λ _. point-rows (vec-items (now (out .exit))) ≡ point-rows (vec-items (now (out .entry))) ++ (standing place (stm place stmt) after (now (catches .entry)) offset ∷ [])) ⌝ }
 {
     let copy = copy_list(heap, catches)?;
