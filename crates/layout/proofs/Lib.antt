@@ -5,3 +5,4 @@ pub mod Joining
 pub mod Nearest
 pub mod Placing
 pub mod Sharing
+pub mod Standing

@@ -2,11 +2,13 @@
 
 mod cells;
 mod counts;
+mod ends;
 mod entries;
 mod exprs;
 mod given;
 mod pars;
 mod places;
+mod points;
 mod sizes;
 mod spelling;
 mod stmts;
