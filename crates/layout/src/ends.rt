@@ -13,7 +13,13 @@ use tables::rows::Point;
 use tables::stmt::Stmt;
 
 // The ends of n places from q on.
-pub fn push_ends(heap: Global, out: &mut Vec<Point>, e: u16, q: u16, n: u16) -> Result<(), AllocError>
+pub fn push_ends(
+    heap: Global,
+    out: &mut Vec<Point>,
+    e: u16,
+    q: u16,
+    n: u16,
+) -> Result<(), AllocError>
     requires { ⌜ e + (q + n) ≤ 2048 ⌝ }
     ensures { λ r. ⌜ made r (λ _. point-rows (vec-items (now (out .exit))) ≡ point-rows (vec-items (now (out .entry))) ++ ended e q n) ⌝ }
 {

@@ -40,15 +40,41 @@ fn copy_list(heap: Global, list: &[u16]) -> Result<Vec<u16>, AllocError>
     list.iter().copied().collect(heap)
 }
 
-pub fn push_point(heap: Global, out: &mut Vec<Point>, stmt: Stmt, after: u16, place: u16, catches: &[u16], offset: usize) -> Result<(), AllocError>
+pub fn push_point(
+    heap: Global,
+    out: &mut Vec<Point>,
+    stmt: Stmt,
+    after: u16,
+    place: u16,
+    catches: &[u16],
+    offset: usize,
+) -> Result<(), AllocError>
     ensures { λ r. ⌜ made r (λ _. point-rows (vec-items (now (out .exit))) ≡ point-rows (vec-items (now (out .entry))) ++ (standing place (stm place stmt) after (now (catches .entry)) offset ∷ [])) ⌝ }
 {
     let copy = copy_list(heap, catches)?;
-    out.push(Point { stmt, after, place, catches: copy, offset })?;
+    out.push(Point {
+        stmt,
+        after,
+        place,
+        catches: copy,
+        offset,
+    })?;
     Ok(())
 }
 
-fn push_node_points(text: &[u8], heap: Global, out: &mut Vec<Point>, e: u16, p: u16, catches: &[u16], tries: &[Held], u: &Node, q: u16, o: u16, k: u16) -> Result<(), AllocError>
+fn push_node_points(
+    text: &[u8],
+    heap: Global,
+    out: &mut Vec<Point>,
+    e: u16,
+    p: u16,
+    catches: &[u16],
+    tries: &[Held],
+    u: &Node,
+    q: u16,
+    o: u16,
+    k: u16,
+) -> Result<(), AllocError>
     requires fit { ⌜ node-fits (node (now text) (now u)) ≡ true ⌝ }
     requires few { ⌜ q + node-places (node (now text) (now u)) ≤ 64 ⌝ }
     requires short { ⌜ o + node-size (node (now text) (now u)) ≤ 1024 ⌝ }
@@ -61,7 +87,15 @@ fn push_node_points(text: &[u8], heap: Global, out: &mut Vec<Point>, e: u16, p: 
             let stmt = action_stmt(heap, action)?;
             push_point(heap, out, stmt, k, p, catches, *at)
         }
-        Node::Throws(at, n) => push_point(heap, out, throw_stmt(text, tries, p, *n), k, p, catches, *at),
+        Node::Throws(at, n) => push_point(
+            heap,
+            out,
+            throw_stmt(text, tries, p, *n),
+            k,
+            p,
+            catches,
+            *at,
+        ),
         Node::Two(at, _, part, first, second) => {
             let size = statements(text, first);
             let after = leads_to(text, part, o, k);
@@ -71,8 +105,32 @@ fn push_node_points(text: &[u8], heap: Global, out: &mut Vec<Point>, e: u16, p: 
             push_point(heap, out, stmt, k, p, catches, *at)?;
             let inner = inner_catches(text, heap, part, j, catches)?;
             let held = inner_tries(text, heap, part, p, j, catches, tries)?;
-            push_points(text, heap, out, e, p, inner.as_slice(), held.as_slice(), first, q, o + 1, after)?;
-            push_points(text, heap, out, e, p, catches, tries, second, q + count(text, first), o + 1 + size, k)
+            push_points(
+                text,
+                heap,
+                out,
+                e,
+                p,
+                inner.as_slice(),
+                held.as_slice(),
+                first,
+                q,
+                o + 1,
+                after,
+            )?;
+            push_points(
+                text,
+                heap,
+                out,
+                e,
+                p,
+                catches,
+                tries,
+                second,
+                q + count(text, first),
+                o + 1 + size,
+                k,
+            )
         }
         Node::Par(at, _, branches) => {
             let stmt = par_stmt(text, heap, branches, q)?;
@@ -83,7 +141,19 @@ fn push_node_points(text: &[u8], heap: Global, out: &mut Vec<Point>, e: u16, p: 
 }
 
 // The points of a block of the place p, where q is the next place, o the next point, and k the point after the block.
-pub fn push_points(text: &[u8], heap: Global, out: &mut Vec<Point>, e: u16, p: u16, catches: &[u16], tries: &[Held], us: &Nodes, q: u16, o: u16, k: u16) -> Result<(), AllocError>
+pub fn push_points(
+    text: &[u8],
+    heap: Global,
+    out: &mut Vec<Point>,
+    e: u16,
+    p: u16,
+    catches: &[u16],
+    tries: &[Held],
+    us: &Nodes,
+    q: u16,
+    o: u16,
+    k: u16,
+) -> Result<(), AllocError>
     requires fit { ⌜ fits (meant (now text) (now us)) ≡ true ⌝ }
     requires few { ⌜ q + how-many (meant (now text) (now us)) ≤ 64 ⌝ }
     requires short { ⌜ o + size (meant (now text) (now us)) ≤ 1024 ⌝ }
@@ -97,12 +167,33 @@ pub fn push_points(text: &[u8], heap: Global, out: &mut Vec<Point>, e: u16, p: u
             let size = node_statements(text, u);
             let next = entry(text, rest, o + size, k);
             push_node_points(text, heap, out, e, p, catches, tries, u, q, o, next)?;
-            push_points(text, heap, out, e, p, catches, tries, rest, q + node_count(text, u), o + size, k)
+            push_points(
+                text,
+                heap,
+                out,
+                e,
+                p,
+                catches,
+                tries,
+                rest,
+                q + node_count(text, u),
+                o + size,
+                k,
+            )
         }
     }
 }
 
-fn push_branch_points(text: &[u8], heap: Global, out: &mut Vec<Point>, e: u16, tries: &[Held], branches: &Branches, q: u16, o: u16) -> Result<(), AllocError>
+fn push_branch_points(
+    text: &[u8],
+    heap: Global,
+    out: &mut Vec<Point>,
+    e: u16,
+    tries: &[Held],
+    branches: &Branches,
+    q: u16,
+    o: u16,
+) -> Result<(), AllocError>
     requires fit { ⌜ branches-fit (all (now text) (now branches)) ≡ true ⌝ }
     requires few { ⌜ q + branch-places (all (now text) (now branches)) ≤ 64 ⌝ }
     requires short { ⌜ o + branch-size (all (now text) (now branches)) ≤ 1024 ⌝ }
@@ -113,8 +204,29 @@ fn push_branch_points(text: &[u8], heap: Global, out: &mut Vec<Point>, e: u16, t
         Branches::Last => Ok(()),
         Branches::Also(_, us, rest) => {
             let none: Vec<u16> = Vec::new(heap);
-            push_points(text, heap, out, e, q, none.as_slice(), tries, us, q + 1, o, e + q)?;
-            push_branch_points(text, heap, out, e, tries, rest, q + 1 + count(text, us), o + statements(text, us))
+            push_points(
+                text,
+                heap,
+                out,
+                e,
+                q,
+                none.as_slice(),
+                tries,
+                us,
+                q + 1,
+                o,
+                e + q,
+            )?;
+            push_branch_points(
+                text,
+                heap,
+                out,
+                e,
+                tries,
+                rest,
+                q + 1 + count(text, us),
+                o + statements(text, us),
+            )
         }
     }
 }

@@ -1,12 +1,12 @@
 // What the reader answers on small texts.
-use reader::fault::Error;
-use reader::fault::FaultDebug;
-use reader::reader::Reader;
-use reader::reader::part;
-use reader::reader::read;
-use reader::token::Tag;
-use reader::token::TagDebug;
-use reader::token::TagPartialEq;
+use crate::fault::Error;
+use crate::fault::FaultDebug;
+use crate::reader::Reader;
+use crate::reader::part;
+use crate::reader::read;
+use crate::token::Tag;
+use crate::token::TagDebug;
+use crate::token::TagPartialEq;
 use std::alloc::Global;
 use std::test::*;
 

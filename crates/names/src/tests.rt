@@ -1,3 +1,4 @@
+use crate::whole::check_names;
 use grammar::tree::Block;
 use grammar::tree::Expr;
 use grammar::tree::Head;
@@ -7,7 +8,6 @@ use grammar::tree::Proc;
 use grammar::tree::Simple;
 use grammar::tree::Stmt;
 use grammar::tree::Tree;
-use names::check_names;
 use numbers::binary::Binary;
 use numbers::binary::BinaryKind;
 use reader::fault::Cause;
