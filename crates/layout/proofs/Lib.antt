@@ -3,6 +3,7 @@ pub mod Copying
 pub mod Giving
 pub mod Joining
 pub mod Nearest
+pub mod Numbering
 pub mod Placing
 pub mod Sharing
 pub mod Standing

@@ -1,10 +1,11 @@
 -- What the places got at their starts: a row with the place and the home for each variable, in the order of the places.
+use mathlib.Core.Path.{_≡_}
 use mathlib.Core.List.{List, [], _∷_, _++_}
 use Prim.Native.Nat.{ℕ, suc, _+_}
 use Rattle.tables.specs.declared.rows.Got as code-got
 use Rattle.unfold.specs.Unfolded.{Got, Node, one, throws, two, par, Nodes, nil, seq, Branches, last, also}
 use Rattle.program.specs.Sizes.{node-places, how-many}
-use Rattle.program.specs.Layout.{Place}
+use Rattle.program.specs.Layout.{Place, placing}
 
 abbrev pub given : ℕ → List Got → List code-got.Got
 given q [] = []
@@ -30,3 +31,7 @@ abbrev mutual
   pub branches-given : Branches → ℕ → List code-got.Got
   branches-given last q = []
   branches-given (also g us bs) q = given q g ++ (nodes-given us (suc q) ++ branches-given bs (suc q + how-many us))
+
+-- The places of a block are numbered from the next place on, so both lists are one.
+abbrev pub Read-off : Type 0
+Read-off = (e p : ℕ) (us : Nodes) (q o : ℕ) → given-from q (placing e p us q o) ≡ nodes-given us q

@@ -8,7 +8,7 @@ ghost use Rattle.std.specs.Vec.{made};
 ghost use Rattle.program.specs.Sizes.{node-places, how-many, branch-places};
 ghost use Rattle.unfold.specs.Views.{gots as variables, node, nodes as meant, branches as all};
 ghost use Rattle.layout.specs.Fits.{gots-fit, node-fits, fits, branches-fit};
-ghost use Rattle.layout.specs.Given.{given, node-given, nodes-given, branches-given};
+ghost use Rattle.layout.specs.Given.{Read-off, given, node-given, nodes-given, branches-given};
 use crate::counts::count;
 use crate::counts::node_count;
 use std::alloc::AllocError;
@@ -81,4 +81,11 @@ fn push_branches_given(
             push_branches_given(text, out, rest, q + 1 + count(text, us))
         }
     }
+}
+
+// What the definition's places got is what `push_given` reads off the unfolded text.
+pub fn got_is_read_off() -> u8
+    ensures { λ _. ⌜ Read-off ⌝ }
+{
+    0
 }
