@@ -4,7 +4,7 @@ use mathlib.Core.Bool.{Bool}
 use Prim.Native.Nat.{ℕ}
 use Rattle.std.proofs.shelf.Equals.{matches-decides}
 use Rattle.reader.specs.Tokens.{same}
-use Rattle.unfold.proofs.Alike.{same-decides, decided}
+use Rattle.names.proofs.Spelling.{same-decides, decided}
 use Rattle.layout.proofs.spelling.alike.Needs as need
 
 pub returns : need.returns
