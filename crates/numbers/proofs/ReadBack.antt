@@ -3,7 +3,7 @@ use Rattle.std.proofs.Common.{◌≡◌, ℕ, ◌-◌, ◌^◌, ◌<◌, true, l
 use Rattle.std.proofs.lemmas.Fmt.{digits_decimal, digits_value-decimal, decimal_nonempty, first_decimal, length-decimal-le}
 use Rattle.std.proofs.lemmas.Str.Parse.{IsNumeralModel, numerals_by_fold}
 use Rattle.std.proofs.lemmas.Int.{to_z_pos}
-use Rattle.std.proofs.lemmas.Bool.{cond_true, lt-ltb}
+use Rattle.std.proofs.lemmas.Bool.{cond-true, lt-ltb}
 use Rattle.std.specs.Fmt.{signed_decimal}
 use Rattle.numbers.specs.Kinds.{Meaning}
 use Rattle.numbers.specs.Binary.{binary}
@@ -22,7 +22,7 @@ read_decimal n h =
     let some = decimal_nonempty n (omega arith) in
     let short = length-decimal-le 10 n (omega arith) h (omega arith) in
     read_whole (decimal n) (omega arith) short
-    ∙ cond_true (all_digits (decimal n)) (Some (value_of 0 (decimal n))) None (digits_decimal own n (omega arith))
+    ∙ cond-true (all_digits (decimal n)) (Some (value_of 0 (decimal n))) None (digits_decimal own n (omega arith))
     ∙ ap Some (digits_value-decimal own n (omega arith))
 
 pub digits_read_back : DigitsReadBack
@@ -35,7 +35,7 @@ pub binary_reads_back : BinaryReadsBack
 binary_reads_back x = (
   λ h. ap (λ z. literal_reading binary (signed_decimal z)) (to_z_pos w32 x h)
       ∙ literal_of binary (decimal x) x (read_decimal x (omega arith))
-      ∙ cond_true (ltb x (2 ^ 31)) (Some x) None (lt-ltb x (2 ^ 31) h),
+      ∙ cond-true (ltb x (2 ^ 31)) (Some x) None (lt-ltb x (2 ^ 31) h),
   λ h lt. negative_written x (2 ^ 32 - x) h lt refl,
 )
 
@@ -44,5 +44,5 @@ decimal_reads_back w h =
     let n = unpack 8 w in
     let small : n < size = unpack_below 8 w h in
     literal_of packed_decimal (decimal n) n (read_decimal n (omega arith))
-    ∙ cond_true (ltb n size) (Some (pack 8 n)) None (lt-ltb n size small)
+    ∙ cond-true (ltb n size) (Some (pack 8 n)) None (lt-ltb n size small)
     ∙ ap Some (pack_unpack 8 w h)

@@ -1,5 +1,5 @@
 -- Decimal digits at the end of an array, from the last one on.
-use Rattle.std.proofs.Common.{◌≡◌, ℕ, zero, suc, ◌+◌, ◌-◌, ◌/◌, ◌%◌, ◌^◌, ◌<◌, ◌≤◌, Bool, true, false, cond, ltb, List, [], ◌∷◌, ◌++◌, length, take, drop, set, decimal, refl, ap, ◌∙◌, append_assoc, append_nil, pow-suc, add-one, sub-one, arith, length-drop}
+use Rattle.std.proofs.Common.{◌≡◌, ℕ, zero, suc, ◌+◌, ◌-◌, ◌/◌, ◌%◌, ◌^◌, ◌<◌, ◌≤◌, Bool, true, false, cond, ltb, List, [], ◌∷◌, ◌++◌, length, take, drop, set, decimal, refl, ap, ◌∙◌, append_assoc, append-nil, pow-suc, add-one, sub-one, arith, length-drop}
 use borrow.Rule.Slice.PartMut.{put_mid}
 use Rattle.std.proofs.lemmas.List.{drop-set, drop_at, drop_all, length-take-le}
 use Rattle.std.proofs.lemmas.Fmt.{decimal_digit, decimal_step}
@@ -48,4 +48,4 @@ put_at_end a k xs ys zs le end e =
     let after : List ℕ = drop k (drop a xs) in
     drop_at (take a xs) (ys ++ after) a (length-take-le a xs le)
     ∙ ap (λ l. ys ++ l) (drop_all k (drop a xs) (omega (arith, length-drop a xs)))
-    ∙ append_nil ys ∙ e
+    ∙ append-nil ys ∙ e

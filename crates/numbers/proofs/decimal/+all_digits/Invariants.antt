@@ -1,4 +1,4 @@
 use Rattle.numbers.proofs.decimal.+all_digits.Given as goal
 
-abbrev pub decreases-all-digits : goal.decreases-all-digits
-decreases-all-digits l = l.k
+abbrev pub decreases-all_digits : goal.decreases-all_digits
+decreases-all_digits l = l.k

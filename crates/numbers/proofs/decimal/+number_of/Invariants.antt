@@ -1,4 +1,4 @@
 use Rattle.numbers.proofs.decimal.+number_of.Given as goal
 
-abbrev pub decreases-number-of : goal.decreases-number-of
-decreases-number-of l = l.k
+abbrev pub decreases-number_of : goal.decreases-number_of
+decreases-number_of l = l.k

@@ -3,11 +3,11 @@ use native.Mathlib.Nat.{pow-le-pow_right}
 use Rattle.numbers.specs.Packs.{pack_step, power_step}
 use Rattle.numbers.proofs.decimal.+word_of.Goals as goal
 
-pub overflow-mul-result : goal.overflow-mul-result
-overflow-mul-result t c = let p : 16 ^ (c.args.k - 1) ≤ 16 ^ 7 = pow-le-pow_right (omega arith) {i = c.args.k - 1} {j = 7} (omega arith) in omega arith
+pub overflow_mul-result : goal.overflow_mul-result
+overflow_mul-result t c = let p : 16 ^ (c.args.k - 1) ≤ 16 ^ 7 = pow-le-pow_right (omega arith) {i = c.args.k - 1} {j = 7} (omega arith) in omega arith
 
-pub overflow-add-result : goal.overflow-add-result
-overflow-add-result t c = let p : 16 ^ (c.args.k - 1) ≤ 16 ^ 7 = pow-le-pow_right (omega arith) {i = c.args.k - 1} {j = 7} (omega arith) in omega arith
+pub overflow_add-result : goal.overflow_add-result
+overflow_add-result t c = let p : 16 ^ (c.args.k - 1) ≤ 16 ^ 7 = pow-le-pow_right (omega arith) {i = c.args.k - 1} {j = 7} (omega arith) in omega arith
 
 pub returns-else-k-eq0 : goal.returns-else-k-eq0
 returns-else-k-eq0 t c =

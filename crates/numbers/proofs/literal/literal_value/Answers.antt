@@ -4,8 +4,8 @@ use Rattle.numbers.specs.Literals.{is_digit}
 use Rattle.numbers.proofs.Literals.{read_digit, read_other, read_done, value_grows}
 use Rattle.numbers.proofs.literal.literal_value.Goals as goal
 
-pub returns-then-not-is-ascii-digit : goal.returns-then-not-is-ascii-digit
-returns-then-not-is-ascii-digit c =
+pub returns-then-not-is_ascii_digit : goal.returns-then-not-is_ascii_digit
+returns-then-not-is_ascii_digit c =
     let ds = c.args.digits.now in
     let i = c.loop-digit.digit-index in
     let other : is_digit (get_or ds i 0) ≡ false = grind (arith, nat_tests) in

@@ -6,4 +6,4 @@ pub returns : goal.returns
 returns c =
     let text = c.args.text.now in
     let from = 11 - length text in
-    put_at_end from (11 - from) (replicate 11 0) c.copy-from-slice.new.self text (omega arith) (omega arith) c.copy-from-slice.ensures.after
+    put_at_end from (11 - from) (replicate 11 0) c.copy_from_slice.new.self text (omega arith) (omega arith) c.copy_from_slice.ensures.after
