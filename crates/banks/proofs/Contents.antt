@@ -1,12 +1,12 @@
 -- The words of a stretch and of a count, each by its index.
 use Rattle.std.proofs.Common.{◌≡◌, ℕ, zero, suc, ◌+◌, ◌*◌, ◌%◌, ◌^◌, ◌<◌, ◌≤◌, leb, List, [], length, get_or, take, drop, sym, refl, ap, ◌∙◌, suc-mul, zero-mul, arith, length-drop}
 use Rattle.std.proofs.lemmas.List.{length-take-le, get_or-take, get_or-drop}
-use Rattle.std.proofs.lemmas.Bool.{cond_true, le-leb}
+use Rattle.std.proofs.lemmas.Bool.{cond-true, le-leb}
 use Rattle.banks.specs.Banks.{stretch, counted}
 use Rattle.banks.specs.Laws.{StretchReads, CountedAdds}
 
 inside : (mem : List ℕ) (first len : ℕ) → first + len ≤ length mem → stretch mem first len ≡ take len (drop first mem)
-inside mem first len h = cond_true (leb (first + len) (length mem)) (take len (drop first mem)) [] (le-leb (first + len) (length mem) h)
+inside mem first len h = cond-true (leb (first + len) (length mem)) (take len (drop first mem)) [] (le-leb (first + len) (length mem) h)
 
 pub stretch_reads : StretchReads
 stretch_reads mem first len h = (

@@ -1,11 +1,11 @@
 -- Takes in a row.
 use Rattle.std.proofs.Common.{◌≡◌, ℕ, zero, suc, Bool, true, false, cond, eqb, ◌≢◌, List, [], ◌∷◌, drop, sym, refl, ap, ◌∙◌}
-use Rattle.std.proofs.lemmas.Bool.{cond_true, cond-false, eq_eqb, ne_eqb}
+use Rattle.std.proofs.lemmas.Bool.{cond-true, cond-false, eq-eqb, ne_eqb}
 use Rattle.banks.specs.Banks.{Words, front, rest, without}
 use Rattle.banks.specs.Laws.{after_takes, TakesCommute, ManyTakes}
 
 without_same : (ws : Words) (a : ℕ) → without ws a a ≡ rest (ws a)
-without_same ws a = cond_true (eqb a a) (rest (ws a)) (ws a) (eq_eqb a a refl)
+without_same ws a = cond-true (eqb a a) (rest (ws a)) (ws a) (eq-eqb a a refl)
 
 without_other : (ws : Words) (a p : ℕ) → p ≢ a → without ws a p ≡ ws p
 without_other ws a p ne = cond-false (eqb p a) (rest (ws p)) (ws p) (ne_eqb p a ne)
