@@ -1,8 +1,8 @@
 -- The converses: a layout determines its tokens, and a stuck text its refusal.
-use Rattle.std.proofs.Common.{◌≡◌, ℕ, ◌+◌, ◌<◌, Bool, true, false, cond, List, [], ◌∷◌, ◌++◌, length, get_or, take, drop, Ok, sym, refl, ap, ◌∙◌, subst, inl, inr, append_nil, le_antisymm, arith}
+use Rattle.std.proofs.Common.{◌≡◌, ℕ, ◌+◌, ◌<◌, Bool, true, false, cond, List, [], ◌∷◌, ◌++◌, length, get_or, take, drop, Ok, sym, refl, ap, ◌∙◌, subst, inl, inr, append-nil, le_antisymm, arith}
 use Rattle.std.specs.List.{AllByRecursion as All}
 use Rattle.std.proofs.lemmas.List.{take_at, drop_at}
-use Rattle.std.proofs.lemmas.Bool.{both_ways, cond_true, cond-false, lt-leb, false≢true}
+use Rattle.std.proofs.lemmas.Bool.{both_ways, cond-true, cond-false, lt-leb, false≢true}
 use Rattle.reader.specs.declared.fault.Cause.TheVariants.{TextTooLong, NoToken}
 use Rattle.reader.specs.Faults.{refuse}
 use Rattle.reader.specs.Tokens.{Lexeme, Class, name, number, fixed, finish, among, letter, digit, blank, signs, reserved, word_class, tokens}
@@ -23,14 +23,14 @@ not_true false h = refl
 
 class_is : (c : Class) (w : List ℕ) → Form c w → decided w ≡ c
 class_is c w (a_name b bs l a n) =
-    cond_true (letter b) (word_class (b ∷ bs)) (cond (digit b) number fixed) (is_letter b l)
+    cond-true (letter b) (word_class (b ∷ bs)) (cond (digit b) number fixed) (is_letter b l)
     ∙ cond-false (among (b ∷ bs) reserved) fixed name (not_true (among (b ∷ bs) reserved) (λ h. n (among_is (b ∷ bs) reserved h)))
 class_is c w (a_number b bs d a) =
     cond-false (letter b) (word_class (b ∷ bs)) (cond (digit b) number fixed) (not_true (letter b) (λ l. not_both b l (is_digit b d)))
-    ∙ cond_true (digit b) number fixed (is_digit b d)
+    ∙ cond-true (digit b) number fixed (is_digit b d)
 class_is c w (a_word v h) =
-    cond_true (letter (get_or w 0 0)) (word_class w) (cond (digit (get_or w 0 0)) number fixed) (word_like w h).0
-    ∙ cond_true (among w reserved) fixed name (is_among w reserved h)
+    cond-true (letter (get_or w 0 0)) (word_class w) (cond (digit (get_or w 0 0)) number fixed) (word_like w h).0
+    ∙ cond-true (among w reserved) fixed name (is_among w reserved h)
 class_is c w (a_sign v h) =
     cond-false (letter (get_or w 0 0)) (word_class w) (cond (digit (get_or w 0 0)) number fixed) (sign_like w h).0
     ∙ cond-false (digit (get_or w 0 0)) number fixed (sign_like w h).1
@@ -112,12 +112,12 @@ readable w rest c t l (inr h) =
 module _ (o : ℕ) (xs : List ℕ) where
   reads_end : All Separates xs → Step o xs → tokens 0 o xs ≡ Ok (record { class = finish; text = []; at = o + length xs } ∷ [])
   reads_end a (ends b q) = q
-  reads_end a (stops gap b rest s g n u q) = absurd (let k = gaps xs gap [] (b ∷ rest) (append_nil xs ∙ s) a g tt n in let e = k.1 in let z : ◌≡◌ {A = ℕ} 0 1 = cc in omega arith)
-  reads_end a (takes gap w rest c s g t l n q) = let b = starts c w rest t.0 in unlike w rest (gaps xs gap [] (w ++ rest) (append_nil xs ∙ s) a g tt b.0).1 b.1
+  reads_end a (stops gap b rest s g n u q) = absurd (let k = gaps xs gap [] (b ∷ rest) (append-nil xs ∙ s) a g tt n in let e = k.1 in let z : ◌≡◌ {A = ℕ} 0 1 = cc in omega arith)
+  reads_end a (takes gap w rest c s g t l n q) = let b = starts c w rest t.0 in unlike w rest (gaps xs gap [] (w ++ rest) (append-nil xs ∙ s) a g tt b.0).1 b.1
 
   module _ (gap w rest : List ℕ) (c : Class) (s : xs ≡ gap ++ (w ++ rest)) (a : All Separates gap) (t : IsToken c w) (l : Longest w rest) where
     reads_token : Step o xs → tokens 0 o xs ≡ cons (record { class = c; text = w; at = o + length gap }) (tokens 0 (o + length gap + length w) rest)
-    reads_token (ends b q) = let k = starts c w rest t.0 in unlike w rest (gaps xs gap [] (w ++ rest) (append_nil xs ∙ s) b a tt k.0).1 k.1
+    reads_token (ends b q) = let k = starts c w rest t.0 in unlike w rest (gaps xs gap [] (w ++ rest) (append-nil xs ∙ s) b a tt k.0).1 k.1
     reads_token (stops gap' b rest' s' a' n u q) =
         let k = gaps gap gap' (w ++ rest) (b ∷ rest') (sym s ∙ s') a a' (starts c w rest t.0).0 n in
         absurd (readable w rest c t l (subst Unreadable (sym k.1) u))
@@ -132,7 +132,7 @@ module _ (o : ℕ) (xs : List ℕ) where
         q ∙ sym r
 
   reads_stuck : (gap : List ℕ) (b : ℕ) (rest : List ℕ) → xs ≡ gap ++ (b ∷ rest) → All Separates gap → (Separates b → ⊥) → Unreadable (b ∷ rest) → Step o xs → tokens 0 o xs ≡ refuse NoToken (o + length gap)
-  reads_stuck gap b rest s a n u (ends e q) = absurd (let k = gaps xs gap [] (b ∷ rest) (append_nil xs ∙ s) e a tt n in let e = k.1 in let z : ◌≡◌ {A = ℕ} 0 1 = cc in omega arith)
+  reads_stuck gap b rest s a n u (ends e q) = absurd (let k = gaps xs gap [] (b ∷ rest) (append-nil xs ∙ s) e a tt n in let e = k.1 in let z : ◌≡◌ {A = ℕ} 0 1 = cc in omega arith)
   reads_stuck gap b rest s a n u (stops gap' b' rest' s' a' n' u' q) =
       let k = gaps gap gap' (b ∷ rest) (b' ∷ rest') (sym s ∙ s') a a' n n' in
       q ∙ ap (λ (g : List ℕ). refuse NoToken (o + length g)) (sym k.0)

@@ -2,7 +2,7 @@
 use Rattle.std.proofs.Common.{◌≡◌, ℕ, ◌+◌, ◌<◌, ◌≤◌, Bool, true, false, cond, ◌&&◌, ◌||◌, eqb, leb, ◌⊎◌, List, [], ◌∷◌, map, length, get_or, take, drop, Ok, Err, Result, sym, refl, ap, ◌∙◌, subst, inl, inr, arith}
 use Rattle.std.specs.List.{AllByRecursion as All}
 use Rattle.std.proofs.lemmas.List.{drop_more, get_or-drop}
-use Rattle.std.proofs.lemmas.Bool.{cond_both, cond_true, cond-false, eqb-true, eqb-false, le-leb, and_parts, cases_eq, or_left, ne_eqb, both_ways}
+use Rattle.std.proofs.lemmas.Bool.{cond_both, cond-true, cond-false, eqb-true, eqb-false, le-leb, and_parts, cases_eq, or_left, ne_eqb, both_ways}
 use Rattle.std.proofs.lemmas.Bool.Decides.{nat_tests}
 use Rattle.reader.specs.declared.classes.Start.{Start}
 use Rattle.reader.specs.declared.classes.Start.TheVariants.{Separator, Word, Number, Sign, Equal, Nothing}
@@ -66,14 +66,14 @@ module _ (text : List ℕ) (at n : ℕ) where
       let w = run letter_or_digit (drop at text) in
       let p : part text at n ≡ w = ap (λ (m : ℕ). take m (drop at text)) e ∙ run_take letter_or_digit (drop at text) in
       let k' : t ≡ word_tag w = k ∙ ap word_tag p in
-      subst (λ (f : First). Shows text at f (Ok (record { tag = t; at = at; len = n }))) (sym (cond_true (leb (length w) 16) (lexeme (word_class w) w) nothing (le-leb (length w) 16 (omega arith))))
+      subst (λ (f : First). Shows text at f (Ok (record { tag = t; at = at; len = n }))) (sym (cond-true (leb (length w) 16) (lexeme (word_class w) w) nothing (le-leb (length w) 16 (omega arith))))
       (lexeme-eq (ap class_of k' ∙ word_class_is w) (ap (λ (v : List ℕ). spelled v t) p ∙ ap (spelled w) k' ∙ word_spelled w), e)
 
   pub number_shows : n ≡ length (run digit (drop at text)) → n ≤ 10 → Shows text at (up_to 10 number (run digit (drop at text))) (Ok (record { tag = tags.Number; at = at; len = n }))
   number_shows e h =
       let w = run digit (drop at text) in
       let p : part text at n ≡ w = ap (λ (m : ℕ). take m (drop at text)) e ∙ run_take digit (drop at text) in
-      subst (λ (f : First). Shows text at f (Ok (record { tag = tags.Number; at = at; len = n }))) (sym (cond_true (leb (length w) 10) (lexeme number w) nothing (le-leb (length w) 10 (omega arith))))
+      subst (λ (f : First). Shows text at f (Ok (record { tag = tags.Number; at = at; len = n }))) (sym (cond-true (leb (length w) 10) (lexeme number w) nothing (le-leb (length w) 10 (omega arith))))
       (lexeme-eq refl p, e)
 
 -- ---- by the first byte

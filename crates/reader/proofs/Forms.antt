@@ -2,7 +2,7 @@
 use Rattle.std.proofs.Common.{◌≡◌, ℕ, ◌<◌, ◌≤◌, Bool, true, false, ◌&&◌, eqb, leb, ◌⊎◌, List, [], ◌∷◌, ◌++◌, length, get_or, sym, refl, ap, subst, inl, inr, arith}
 use Rattle.std.specs.List.{AllByRecursion as All}
 use Rattle.std.proofs.ByRecursion.{All-weaker}
-use Rattle.std.proofs.lemmas.Bool.{and_parts, and_from, or_cases, or_left, or_right, leb-true, le-leb, eq_eqb, eqb-true, false≢true}
+use Rattle.std.proofs.lemmas.Bool.{and_parts, and_from, or_cases, or_left, or_right, leb-true, le-leb, eq-eqb, eqb-true, false≢true}
 use Rattle.reader.specs.Tokens.{Class, same, among, blank, letter, digit, letter_or_digit, run, signs, reserved}
 use Rattle.reader.specs.Language.{Separates, Letter, Digit, Among, Form, a_name, a_number, a_word, a_sign}
 use Rattle.reader.proofs.Runs.{run_on}
@@ -41,12 +41,12 @@ pub separates : (b : ℕ) → blank b ≡ true → Separates b
 separates b e = elim (or_cases (eqb b 32) (eqb b 10) e) [ inl h ↦ inl (eqb-true b 32 h) | inr h ↦ inr (eqb-true b 10 h) ]
 
 pub is_blank : (b : ℕ) → Separates b → blank b ≡ true
-is_blank b (inl h) = or_left (eqb b 32) (eqb b 10) (eq_eqb b 32 h)
-is_blank b (inr h) = or_right (eqb b 32) (eqb b 10) (eq_eqb b 10 h)
+is_blank b (inl h) = or_left (eqb b 32) (eqb b 10) (eq-eqb b 32 h)
+is_blank b (inr h) = or_right (eqb b 32) (eqb b 10) (eq-eqb b 10 h)
 
 same_refl : (v : List ℕ) → same v v ≡ true
 same_refl [] = refl
-same_refl (x ∷ xs) = and_from (eqb x x) (same xs xs) (eq_eqb x x refl) (same_refl xs)
+same_refl (x ∷ xs) = and_from (eqb x x) (same xs xs) (eq-eqb x x refl) (same_refl xs)
 
 pub among_is : (w : List ℕ) (vs : List (List ℕ)) → among w vs ≡ true → Among w vs
 among_is w [] e = false≢true e

@@ -1,5 +1,5 @@
 -- A text that is read is laid out as its tokens say, and one that is refused has its cause.
-use Rattle.std.proofs.Common.{◌≡◌, ℕ, zero, suc, ◌+◌, ◌<◌, ◌≤◌, Bool, true, false, leb, ◌⊎◌, List, [], ◌∷◌, ◌++◌, length, drop, Ok, Err, sym, refl, ap, ◌∙◌, subst, inl, inr, append_nil, arith, length-append}
+use Rattle.std.proofs.Common.{◌≡◌, ℕ, zero, suc, ◌+◌, ◌<◌, ◌≤◌, Bool, true, false, leb, ◌⊎◌, List, [], ◌∷◌, ◌++◌, length, drop, Ok, Err, sym, refl, ap, ◌∙◌, subst, inl, inr, append-nil, arith, length-append}
 use Rattle.std.specs.List.{AllByRecursion as All}
 use Rattle.std.proofs.ByRecursion.{All-weaker}
 use Rattle.std.proofs.lemmas.Bool.{leb-true, leb-false, both_ways}
@@ -60,7 +60,7 @@ module _ (o : ℕ) (xs : List ℕ) where
 
   by_rest : (ys : List ℕ) → drop (length (run blank xs)) xs ≡ ys → Step o xs
   by_rest [] e =
-      let s : xs ≡ run blank xs = splits [] e ∙ append_nil (run blank xs) in
+      let s : xs ≡ run blank xs = splits [] e ∙ append-nil (run blank xs) in
       ends (subst (All Separates) (sym s) seps)
       (skips [] e ∙ ap (λ (l : List ℕ). Ok (record { class = finish; text = []; at = o + length l } ∷ [])) (sym s))
   by_rest (b ∷ bs) e = by_first b bs e (first b bs) refl

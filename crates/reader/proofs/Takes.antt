@@ -2,7 +2,7 @@
 use Rattle.std.proofs.Common.{◌≡◌, ℕ, ◌<◌, ◌≤◌, Bool, true, false, cond, eqb, leb, ◌⊎◌, List, [], ◌∷◌, ◌++◌, length, get_or, drop, sym, refl, ap, ◌∙◌, subst, inl, inr, arith}
 use Rattle.std.specs.List.{AllByRecursion as All}
 use Rattle.std.proofs.ByRecursion.{All-weaker}
-use Rattle.std.proofs.lemmas.Bool.{and_from, or_left, leb-true, leb-false, eq_eqb, eqb-false, both_ways}
+use Rattle.std.proofs.lemmas.Bool.{and_from, or_left, leb-true, leb-false, eq-eqb, eqb-false, both_ways}
 use Rattle.reader.specs.declared.classes.Start.{Start}
 use Rattle.reader.specs.declared.classes.Start.TheVariants as starts
 use Rattle.reader.specs.Tokens.{First, space, nothing, lexeme, Class, name, number, fixed, among, blank, letter, digit, letter_or_digit, run, begins, first, up_to, signs, reserved, word_class}
@@ -124,7 +124,7 @@ too_long n c v = go (leb (length v) n) refl
 begins_true : (v t xs : List ℕ) → v ++ t ≡ xs → begins v xs ≡ true
 begins_true [] t xs e = refl
 begins_true (x ∷ v) t [] e = absurd (let z : ◌≡◌ {A = ℕ} 0 1 = cc in omega arith)
-begins_true (x ∷ v) t (y ∷ xs) e = and_from (eqb x y) (begins v xs) (eq_eqb x y (let r : x ≡ y = cc in r)) (begins_true v t xs (let r : v ++ t ≡ xs = cc in r))
+begins_true (x ∷ v) t (y ∷ xs) e = and_from (eqb x y) (begins v xs) (eq-eqb x y (let r : x ≡ y = cc in r)) (begins_true v t xs (let r : v ++ t ≡ xs = cc in r))
 
 word_unreadable : (b : ℕ) (bs : List ℕ) → letter b ≡ true → 16 < length (run letter_or_digit (b ∷ bs)) → Unreadable (b ∷ bs)
 word_unreadable b bs l n =

@@ -1,5 +1,5 @@
 -- The reader's loop: the tokens found so far and those of what is left are the text's.
-use Rattle.std.proofs.Common.{◌≡◌, ℕ, ◌+◌, ◌<◌, ◌≤◌, Bool, true, false, List, [], ◌∷◌, ◌++◌, length, drop, Ok, Err, vec_items, Result, Vec, sym, refl, ap, ◌∙◌, subst, append_assoc, append_nil, arith}
+use Rattle.std.proofs.Common.{◌≡◌, ℕ, ◌+◌, ◌<◌, ◌≤◌, Bool, true, false, List, [], ◌∷◌, ◌++◌, length, drop, Ok, Err, vec_items, Result, Vec, sym, refl, ap, ◌∙◌, subst, append_assoc, append-nil, arith}
 use Rattle.std.specs.List.{AllByRecursion as All}
 use Rattle.std.proofs.lemmas.Bool.{le-leb}
 use Rattle.std.proofs.ByRecursion.{All-push}
@@ -74,7 +74,7 @@ class_end tags.Main e = absurd (let z : ◌≡◌ {A = ℕ} 0 1 = cc in omega ar
 class_end tags.End e = refl
 
 prepend_ok : (ls : List Lexeme) → prepend ls (Ok []) ≡ Ok ls
-prepend_ok ls = ap (λ (k : List Lexeme). Ok k) (append_nil ls)
+prepend_ok ls = ap (λ (k : List Lexeme). Ok k) (append-nil ls)
 
 module _ (text : List ℕ) (at : ℕ) (ts : List Token) (h : at ≤ length text) (g : Going text at ts) where
   skipped : tokens 0 at (drop at text) ≡ tokens 0 (next_at text at) (drop (next_at text at) text)

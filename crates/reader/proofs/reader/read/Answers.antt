@@ -8,31 +8,31 @@ use Rattle.reader.proofs.Laying.{tokens_are_longest_lem}
 use Rattle.reader.proofs.Turns.{Going, Turn, turn, again, all_read, ended, faulty, of_same, exact_ok, exact_err, tokenized_is}
 use Rattle.reader.proofs.reader.read.Goals as goal
 
-pub returns-in-err-token : goal.returns-in-err-token
-returns-in-err-token c =
+pub returns-in_err-token : goal.returns-in_err-token
+returns-in_err-token c =
     let text = c.args.text.now in
     let was = c.loop-found.reader.text.now in
     let at = c.loop-found.reader.at in
-    let f = c.in-err-token.field-0.0 in
+    let f = c.in_err-token.field-0.0 in
     let e = c.loop-found.invariant.0 in
-    let s = of_same was text at (Err f) e c.in-err-token.ensures.token in
+    let s = of_same was text at (Err f) e c.in_err-token.ensures.token in
     let h : at ≤ length text = subst (λ (l : List ℕ). at ≤ length l) e c.loop-found.reader.within in
-    let p = err_from_is_err_and c.from-residual-in-err-token.result c.from-residual-in-err-token.ensures.1 in
+    let p = err_from_is_err_and c.from_residual-in_err-token.result c.from_residual-in_err-token.ensures.1 in
     rw (p.1, p.2) (record { exact = exact_err text f c.loop-found.invariant.1 (faulty text at (vec_items c.loop-found.found) h c.loop-found.invariant.2 f s); laid = tt; ended = tt })
 
-last_turn : (c : goal.In-End) → Turn c.args.text.now c.loop-found.reader.at (vec_items c.loop-found.found) c.in-ok-token.token
+last_turn : (c : goal.In-End) → Turn c.args.text.now c.loop-found.reader.at (vec_items c.loop-found.found) c.in_ok-token.token
 last_turn c =
-    turn c.loop-found.reader.text.now c.args.text.now c.loop-found.reader.at (vec_items c.loop-found.found) c.in-ok-token.token
-    c.loop-found.invariant.0 c.loop-found.reader.within c.loop-found.invariant.2 c.in-ok-token.ensures.token
+    turn c.loop-found.reader.text.now c.args.text.now c.loop-found.reader.at (vec_items c.loop-found.found) c.in_ok-token.token
+    c.loop-found.invariant.0 c.loop-found.reader.within c.loop-found.invariant.2 c.in_ok-token.ensures.token
 
 pub returns-in-End : goal.returns-in-End
 returns-in-End c =
     let text = c.args.text.now in
     let at = c.loop-found.reader.at in
     let ts = vec_items c.loop-found.found in
-    let t = c.in-ok-token.token in
+    let t = c.in_ok-token.token in
     let n = last_turn c in
-    let p : vec_items c.push.new.self ≡ ts ++ (t ∷ []) = c.in-ok-push.ensures.items in
+    let p : vec_items c.push.new.self ≡ ts ++ (t ∷ []) = c.in_ok-push.ensures.items in
     let e = all_read text at ts n.inside n.going t n.shows c.in-End.is in
     record {
       exact = exact_ok text c.push.new.self (ts ++ (t ∷ [])) c.loop-found.invariant.1 p e;
@@ -40,19 +40,19 @@ returns-in-End c =
       ended = subst (λ (l : List Token). Ended text l) (sym p) (ended text at ts n.inside n.going t n.shows c.loop-found.invariant.1 c.in-End.is);
     }
 
-next_turn : (c : goal.In-default) → (c.loop-found.reader.at < c.next.new.self.at) × Going c.args.text.now c.next.new.self.at (vec_items c.push.new.self)
+next_turn : (c : goal.In_default) → (c.loop-found.reader.at < c.next.new.self.at) × Going c.args.text.now c.next.new.self.at (vec_items c.push.new.self)
 next_turn c =
-    again c.loop-found.reader.text.now c.args.text.now c.loop-found.reader.at c.next.new.self.at (vec_items c.loop-found.found) (vec_items c.push.new.self) c.in-ok-token.token
-    (turn c.loop-found.reader.text.now c.args.text.now c.loop-found.reader.at (vec_items c.loop-found.found) c.in-ok-token.token
-    c.loop-found.invariant.0 c.loop-found.reader.within c.loop-found.invariant.2 c.in-ok-token.ensures.token)
-    c.in-default.not-End c.loop-found.invariant.0 c.in-ok-token.ensures.stands c.in-ok-push.ensures.items
+    again c.loop-found.reader.text.now c.args.text.now c.loop-found.reader.at c.next.new.self.at (vec_items c.loop-found.found) (vec_items c.push.new.self) c.in_ok-token.token
+    (turn c.loop-found.reader.text.now c.args.text.now c.loop-found.reader.at (vec_items c.loop-found.found) c.in_ok-token.token
+    c.loop-found.invariant.0 c.loop-found.reader.within c.loop-found.invariant.2 c.in_ok-token.ensures.token)
+    c.in_default.not-End c.loop-found.invariant.0 c.in_ok-token.ensures.stands c.in_ok-push.ensures.items
 
 pub loop-found-smaller : goal.loop-found-smaller
 loop-found-smaller c =
     let n = next_turn c in
     let l = n.0 in
-    let w : c.next.new.self.at ≤ length c.args.text.now = subst (λ (l : List ℕ). c.next.new.self.at ≤ length l) (c.in-ok-token.ensures.text ∙ c.loop-found.invariant.0) c.next.new.self.within in
+    let w : c.next.new.self.at ≤ length c.args.text.now = subst (λ (l : List ℕ). c.next.new.self.at ≤ length l) (c.in_ok-token.ensures.text ∙ c.loop-found.invariant.0) c.next.new.self.within in
     omega arith
 
 pub loop-found-preserved : goal.loop-found-preserved
-loop-found-preserved c = (c.in-ok-token.ensures.text ∙ c.loop-found.invariant.0, c.loop-found.invariant.1, (next_turn c).1)
+loop-found-preserved c = (c.in_ok-token.ensures.text ∙ c.loop-found.invariant.0, c.loop-found.invariant.1, (next_turn c).1)

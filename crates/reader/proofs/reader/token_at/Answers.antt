@@ -6,17 +6,17 @@ pub returns-in-Sign : goal.returns-in-Sign
 returns-in-Sign c = sign_here c.args.text.now c.args.at c.requires.within c.in-Sign.tag c.in-Sign.ensures
 
 pub returns-in-Equal : goal.returns-in-Equal
-returns-in-Equal c = rw c.equal-at.ensures (equal_here c.args.text.now c.args.at c.requires.within c.in-Equal.ensures)
+returns-in-Equal c = rw c.equal_at.ensures (equal_here c.args.text.now c.args.at c.requires.within c.in-Equal.ensures)
 
 pub returns-in-Word : goal.returns-in-Word
-returns-in-Word c = word_here c.args.text.now c.args.at c.requires.within c.word-at.result c.in-Word.ensures c.word-at.ensures
+returns-in-Word c = word_here c.args.text.now c.args.at c.requires.within c.word_at.result c.in-Word.ensures c.word_at.ensures
 
 pub returns-in-Number : goal.returns-in-Number
-returns-in-Number c = number_here c.args.text.now c.args.at c.requires.within c.number-at.result c.in-Number.ensures c.number-at.ensures
+returns-in-Number c = number_here c.args.text.now c.args.at c.requires.within c.number_at.result c.in-Number.ensures c.number_at.ensures
 
 pub returns-in-Separator : goal.returns-in-Separator
 returns-in-Separator c =
     elim c.in-Separator.is [
-      | inl e ↦ separator_here c.args.text.now c.args.at c.requires.within c.requires.token-byte (sym e ∙ c.begins.ensures)
-      | inr e ↦ nothing_here c.args.text.now c.args.at c.requires.within c.no-token.result c.no-token.ensures (sym e ∙ c.begins.ensures)
+      | inl e ↦ separator_here c.args.text.now c.args.at c.requires.within c.requires.token_byte (sym e ∙ c.begins.ensures)
+      | inr e ↦ nothing_here c.args.text.now c.args.at c.requires.within c.no_token.result c.no_token.ensures (sym e ∙ c.begins.ensures)
     ]
