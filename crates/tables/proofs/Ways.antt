@@ -1,6 +1,6 @@
 -- The way up from a place to its parent, and on to the main block, one step at a time.
 use Rattle.std.proofs.Common.{◌≡◌, ℕ, zero, suc, ◌+◌, ◌-◌, ◌<◌, ◌≤◌, Bool, true, false, not, ◌&&◌, ◌||◌, eqb, ◌⊎◌, sym, refl, ap, ◌∙◌, subst, inl, inr, arith}
-use Rattle.std.proofs.lemmas.Bool.{not_true, eqb-false, cases_Bool, eq_eqb, ne_eqb}
+use Rattle.std.proofs.lemmas.Bool.{not-true, eqb-false, cases_Bool, eq-eqb, ne_eqb}
 use Rattle.rules.specs.Programs.{Table}
 use Rattle.rules.specs.Trees.{climbs, nonzero, within}
 
@@ -35,13 +35,13 @@ module _ (up : ℕ → ℕ) (ok : ℕ → Bool) (low : (q : ℕ) → ok q ≡ tr
 
 module _ (t : Table) (lower : (q : ℕ) → 0 < q → t.parent q < q) where
   positive : (q : ℕ) → nonzero q ≡ true → 0 < q
-  positive q e = let z = eqb-false q 0 (not_true (eqb q 0) e) in omega arith
+  positive q e = let z = eqb-false q 0 (not-true (eqb q 0) e) in omega arith
 
   pub nonzero_low : (q : ℕ) → nonzero q ≡ true → t.parent q < q
   nonzero_low q e = lower q (positive q e)
 
   pub within_here : (p q : ℕ) → q ≡ p → within t p q ≡ true
-  within_here p q e = climbs_one t.parent nonzero nonzero_low p q ∙ ap (λ b. b || (nonzero q && within t p (t.parent q))) (eq_eqb q p e)
+  within_here p q e = climbs_one t.parent nonzero nonzero_low p q ∙ ap (λ b. b || (nonzero q && within t p (t.parent q))) (eq-eqb q p e)
 
   pub within_up : (p q : ℕ) → (q ≡ p → ⊥) → (q ≡ 0 → ⊥) → within t p q ≡ within t p (t.parent q)
   within_up p q ne nz =
@@ -53,7 +53,7 @@ module _ (t : Table) (lower : (q : ℕ) → 0 < q → t.parent q < q) where
   within_none p q ne z =
       climbs_one t.parent nonzero nonzero_low p q
       ∙ ap (λ b. b || (nonzero q && within t p (t.parent q))) (ne_eqb q p ne)
-      ∙ ap (λ b. not b && within t p (t.parent q)) (eq_eqb q 0 z)
+      ∙ ap (λ b. not b && within t p (t.parent q)) (eq-eqb q 0 z)
 
   -- nothing below a number comes up to it
   within_root : (p q : ℕ) → q < p → nonzero q ≡ false → within t p q ≡ false

@@ -8,13 +8,13 @@ pub loop-i-preserved : goal.loop-i-preserved
 loop-i-preserved c =
     let gs = vec_items c.args.self.now.got in
     let g = got_at gs c.loop-i.i c.index-g.result.now c.args.q c.args.h (omega arith) c.index-g.ensures in
-    any_more (λ i. got_is (get_or gs i no_got) c.args.q c.args.h) c.loop-i.i c.loop-i.invariant (g ∙ sym c.if-is-got.ensures)
+    any_more (λ i. got_is (get_or gs i no_got) c.args.q c.args.h) c.loop-i.i c.loop-i.invariant (g ∙ sym c.if-is_got.ensures)
 
-pub returns-then-is-got : goal.returns-then-is-got
-returns-then-is-got c =
+pub returns-then-is_got : goal.returns-then-is_got
+returns-then-is_got c =
     let gs = vec_items c.args.self.now.got in
     let g = got_at gs c.loop-i.i c.index-g.result.now c.args.q c.args.h (omega arith) c.index-g.ensures in
-    sym (any_found (λ i. got_is (get_or gs i no_got) c.args.q c.args.h) _ c.loop-i.i (omega arith) (g ∙ sym c.if-is-got.ensures))
+    sym (any_found (λ i. got_is (get_or gs i no_got) c.args.q c.args.h) _ c.loop-i.i (omega arith) (g ∙ sym c.if-is_got.ensures))
 
 pub returns : goal.returns
 returns c =
