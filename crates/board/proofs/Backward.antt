@@ -1,6 +1,6 @@
 -- A test by fuel over a table whose children stand after tknowing-child parents, as a loop from the last place to the first.
 use Rattle.std.proofs.Common.{◌≡◌, ℕ, zero, suc, ◌+◌, ◌-◌, ◌<◌, ◌≤◌, Bool, true, false, not, ◌&&◌, ◌||◌, eqb, ◌⊎◌, List, length, get_or, set, sym, refl, ap, ◌∙◌, subst, ap₂, inl, inr, arith, get_or-set_other, get_or-set_same}
-use Rattle.std.proofs.lemmas.Bool.{and_parts, eqb-true, not_true, eqb-false, cases_Bool}
+use Rattle.std.proofs.lemmas.Bool.{and_parts, eqb-true, not-true, eqb-false, cases_Bool}
 use Rattle.rules.specs.Programs.{Table}
 use Rattle.rules.specs.Trees.{nonzero}
 use Rattle.rules.specs.States.{State, Local, idle, running, parted, finished, poisoned, live}
@@ -41,7 +41,7 @@ module _ (t : Table) (s : State) (h : ℕ) (low : (q : ℕ) → 0 < q → t.pare
   child_lower : (p c : ℕ) → child t p c ≡ true → p < c
   child_lower p c e =
       let a = and_parts (nonzero c) (eqb (t.parent c) p) e in
-      let z = eqb-false c 0 (not_true (eqb c 0) a.0) in
+      let z = eqb-false c 0 (not-true (eqb c 0) a.0) in
       let w = eqb-true (t.parent c) p a.1 in
       let k : 0 < c = omega arith in
       let l = low c k in

@@ -3,7 +3,7 @@ use Rattle.std.proofs.Common.{◌≡◌, ℕ, zero, suc, ◌+◌, ◌-◌, ◌<�
 use mathlib.Core.Option
 use mathlib.Core.Option.{Option, some, none, map}
 use Rattle.std.proofs.lemmas.List.{at_drop_more, at_drop_all}
-use Rattle.std.proofs.lemmas.Bool.{and_parts, ltb-true, eq_eqb, ne_eqb, eqb-true}
+use Rattle.std.proofs.lemmas.Bool.{and_parts, ltb-true, eq-eqb, ne_eqb, eqb-true}
 use Rattle.rules.specs.Programs.{Copies, pick, elem, Table}
 use Rattle.rules.specs.States.{State}
 use Rattle.rules.specs.Steps.{copying}
@@ -47,7 +47,7 @@ pub get_d_set : {A : Type 0} (xs : List A) (i j : ℕ) (v d : A) → i < length 
 get_d_set xs i j v d l =
     elim (same? j i) [
       | inl e ↦ subst (λ (x : ℕ). get_or (set xs i v) x d ≡ cond (eqb x i) v (get_or xs x d)) (sym e)
-          (get_or-set_same xs i v d l ∙ ap (λ b. cond b v (get_or xs i d)) (sym (eq_eqb i i refl)))
+          (get_or-set_same xs i v d l ∙ ap (λ b. cond b v (get_or xs i d)) (sym (eq-eqb i i refl)))
       | inr ne ↦ get_or-set_other xs i j v d ne ∙ ap (λ b. cond b v (get_or xs j d)) (sym (ne_eqb j i ne))
     ]
 
@@ -91,7 +91,7 @@ forked_is start (b ∷ bs) ps n h q =
           subst (λ (v : ℕ). cond (elem v bs) (started start v (get_or (set ps b new) v idle_place)) (get_or (set ps b new) v idle_place) ≡ cond (eqb v b || elem v bs) (started start v (get_or ps v idle_place)) (get_or ps v idle_place)) (sym i)
           (ap (λ x. cond (elem b bs) (started start b x) x) (get_or-set_same ps b new idle_place (omega arith))
           ∙ both (elem b bs) new
-          ∙ ap (λ v. cond (v || elem b bs) new (get_or ps b idle_place)) (sym (eq_eqb b b refl)))
+          ∙ ap (λ v. cond (v || elem b bs) new (get_or ps b idle_place)) (sym (eq-eqb b b refl)))
       | inr ne ↦
           ap (λ x. cond (elem q bs) (started start q x) x) (get_or-set_other ps b q new idle_place ne)
           ∙ ap (λ v. cond (v || elem q bs) (started start q (get_or ps q idle_place)) (get_or ps q idle_place)) (sym (ne_eqb q b ne))

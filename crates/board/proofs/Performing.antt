@@ -2,7 +2,7 @@
 use Rattle.std.proofs.Common.{◌≡◌, ℕ, zero, suc, ◌+◌, ◌<◌, ◌≤◌, Bool, true, false, cond, not, ◌&&◌, ◌||◌, eqb, ◌⊎◌, List, [], ◌∷◌, length, get_or, set, sym, refl, ap, ◌∙◌, subst, ap₂, inl, inr, zero-add, arith, length-set, get_or-set_other, get_or-set_same}
 use mathlib.Core.Option
 use mathlib.Core.Option.{Option, some, none, map}
-use Rattle.std.proofs.lemmas.Bool.{ne_eqb, eq_eqb}
+use Rattle.std.proofs.lemmas.Bool.{ne_eqb, eq-eqb}
 use Rattle.rules.specs.Programs.{Table, elem}
 use Rattle.rules.specs.States.{Local, idle, running, parted}
 use Rattle.rules.specs.Effects.{Effect, only, changed, one_at, later, nothing, never}
@@ -50,7 +50,7 @@ step_to_after t p a s ps cs l sh lt n m others at mark steps cells =
     new = record { at = l; mark = (get_or ps p idle_place).mark; steps = (get_or ps p idle_place).steps + 1 }
 
     one : one_at p p ≡ 1
-    one = ap (λ b. cond b 1 0) (eq_eqb p p refl)
+    one = ap (λ b. cond b 1 0) (eq-eqb p p refl)
 
     own_steps : (get_or ps p idle_place).steps + 1 ≡ one_at p p + (place s p).steps
     own_steps = omega (arith, one, steps)
@@ -65,7 +65,7 @@ rest_stay t p l q x ne =
     )
 
 own_at : (p : ℕ) (l m : Local) → l ≡ Option.get_or (only p l p) m
-own_at p l m = sym (ap (λ v. Option.get_or (cond v (some l) none) m) (eq_eqb p p refl))
+own_at p l m = sym (ap (λ v. Option.get_or (cond v (some l) none) m) (eq-eqb p p refl))
 
 pub pass_after : (t : Table) (p y : ℕ) (w : ℕ → Option ℕ) (r : ℕ → Bool) (s : State) (cs : List ℕ) → MayMove s → p < 64 → length cs ≡ 128
     → ((c : ℕ) → get_or cs c 0 ≡ Option.get_or (w c) (get_or s.cells c 0))
@@ -91,7 +91,7 @@ fork_after t p x w bs s cs c lt n named cells =
       mark = ap (λ (v : PlaceState). marked v.mark) (is q) ∙ marks (elem q bs) (place s q) (t.start q);
       steps = ap (λ (v : PlaceState). v.steps) (is q) ∙ steps (elem q bs) (place s q) (t.start q) ∙ sym (ap (λ v. cond v 1 0 + (place s q).steps) (ne_eqb q p ne) ∙ zero-add (place s q).steps);
     })
-    (sym (ap (λ v. Option.get_or (cond v (some (parted x)) (cond (elem p bs) (some (running (t.start p))) none)) (local (place s p).at)) (eq_eqb p p refl)))
+    (sym (ap (λ v. Option.get_or (cond v (some (parted x)) (cond (elem p bs) (some (running (t.start p))) none)) (local (place s p).at)) (eq-eqb p p refl)))
     (ap (λ (v : PlaceState). marked v.mark) (is p) ∙ marks (elem p bs) (place s p) (t.start p))
     (ap (λ (v : PlaceState). v.steps) (is p) ∙ steps (elem p bs) (place s p) (t.start p))
     cells

@@ -1,7 +1,7 @@
 -- A scan, one move at a time.
 use Rattle.std.proofs.Common.{◌≡◌, ℕ, zero, suc, ◌+◌, ◌<◌, ◌≤◌, Bool, true, false, cond, ◌⊎◌, List, [], ◌∷◌, ◌++◌, length, Some, None, sym, refl, ap, ◌∙◌, subst, inl, inr, append_assoc, add-one, arith}
 use mathlib.Core.Option.{Option, some, none}
-use Rattle.std.proofs.lemmas.List.{append_nil, length_push}
+use Rattle.std.proofs.lemmas.List.{append-nil, length_push}
 use Rattle.tables.specs.declared.moves.Move as name
 use Rattle.tables.specs.Views.{move}
 use Rattle.rules.specs.States.{Move}
@@ -34,7 +34,7 @@ each_more f i w xs ys s e h =
     (append_assoc xs (each f i) ys ∙ ap (λ v. xs ++ v) (ap (λ v. each f i ++ v) e ∙ sym (ap (each f) (add-one i)))) h
 
 pub each_none : (f : ℕ → List Move) (w : ℕ) (xs : List Move) (s : Scan) → Scanned w xs s → Scanned w (xs ++ each f 0) s
-each_none f w xs s h = subst (λ (v : List Move). Scanned w v s) (sym (append_nil xs)) h
+each_none f w xs s h = subst (λ (v : List Move). Scanned w v s) (sym (append-nil xs)) h
 
 pub took : (s : Scan) (m : name.Move) → s.count ≡ s.want → (w : ℕ) (xs : List Move) → Scanned w xs s
     → Scanned w (xs ++ (move m ∷ [])) (record { want = s.want; count = s.count + 1; found = Some m })

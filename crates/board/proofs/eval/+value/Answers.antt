@@ -1,5 +1,5 @@
 use Rattle.std.proofs.Common.{◌≡◌, ℕ, cond, eqb, get_or, sym, ap, ◌∙◌, ap₂}
-use Rattle.std.proofs.lemmas.Bool.{eq_eqb, ne_eqb}
+use Rattle.std.proofs.lemmas.Bool.{eq-eqb, ne_eqb}
 use Rattle.rules.specs.Values.{value}
 use Rattle.tables.specs.Stms.{expr}
 use Rattle.tables.specs.declared.expr.Expr.{Expr}
@@ -51,7 +51,7 @@ returns-then-value g t c =
     let v : Expr → ℕ = λ e. value k (λ i. get_or c.args.cells.now i 0) (expr e) in
     let x : c.value-in-Same.result ≡ v c.in-Same.a.value = c.value-in-Same.ensures ∙ ap v c.deref-in-Same.ensures in
     let y : c.value-in-Same-2.result ≡ v c.in-Same.b.value = c.value-in-Same-2.ensures ∙ ap v c.deref-in-Same-2.ensures in
-    ap (λ b. cond b 1 0) (sym (eq_eqb _ _ c.if-value.true) ∙ ap₂ eqb x y) ∙ sym (ap v c.in-Same.is)
+    ap (λ b. cond b 1 0) (sym (eq-eqb _ _ c.if-value.true) ∙ ap₂ eqb x y) ∙ sym (ap v c.in-Same.is)
 
 pub returns-else-value : goal.returns-else-value
 returns-else-value g t c =

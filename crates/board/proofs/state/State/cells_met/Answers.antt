@@ -3,7 +3,7 @@ use Rattle.tables.specs.Views.{table}
 use Rattle.board.specs.Views.{portless, flags}
 use Rattle.board.proofs.Copying.{met_cell_more, get_d_set}
 use Rattle.board.proofs.state.State.cells_met.Goals as goal
-use Rattle.board.proofs.state.State.cells_met.Goals.{in-Some, in-default}
+use Rattle.board.proofs.state.State.cells_met.Goals.{in-Some, in_default}
 
 pub loop-q-init : goal.loop-q-init
 loop-q-init c = (c.requires.1, λ k. refl)
@@ -11,7 +11,7 @@ loop-q-init c = (c.requires.1, λ k. refl)
 pub loop-q-preserved : goal.loop-q-preserved
 loop-q-preserved c =
     let more = met_cell_more (table c.args.t.now) (portless c.args.self.now) (flags c.args.counted.now) c.args.word c.loop-q.q in
-    elim c.match-own-cell.branch [
+    elim c.match-own_cell.branch [
       | in-Some w ↦ (
         ap (λ (v : List ℕ). length v) w.cells-is ∙ length-set _ _ _ ∙ c.loop-q.invariant.0,
         λ k. ap (λ (v : List ℕ). get_or v k 0) w.cells-is
@@ -19,8 +19,8 @@ loop-q-preserved c =
             (get_d_set c.loop-q.cells w.in-Some.c k c.args.word 0 (omega (arith, w.in-Some.ensures.named, c.loop-q.invariant.0))
             ∙ ap (λ v. cond (eqb k w.in-Some.c) c.args.word v) (c.loop-q.invariant.1 k)),
       )
-      | in-default w ↦ (
+      | in_default w ↦ (
         ap (λ (v : List ℕ). length v) w.cells-is ∙ c.loop-q.invariant.0,
-        λ k. ap (λ (v : List ℕ). get_or v k 0) w.cells-is ∙ more k _ false (w.in-default.ensures.is k) (c.loop-q.invariant.1 k),
+        λ k. ap (λ (v : List ℕ). get_or v k 0) w.cells-is ∙ more k _ false (w.in_default.ensures.is k) (c.loop-q.invariant.1 k),
       )
     ]

@@ -27,19 +27,19 @@ loop-q-preserved c =
           _ _ t h (get_or s.cells h 0) (c.met-new.ensures h (get_or s.cells h 0) q)),
     )
 
-pub overflow-add-self : goal.overflow-add-self
-overflow-add-self c = omega (arith, ap (λ (s : State). get_or s.meets c.args.h 0) c.loop-q.invariant.0, c.requires.counts.1.1 c.args.h)
+pub overflow_add-self : goal.overflow_add-self
+overflow_add-self c = omega (arith, ap (λ (s : State). get_or s.meets c.args.h 0) c.loop-q.invariant.0, c.requires.counts.1.1 c.args.h)
 
-pub overflow-add-self-2 : goal.overflow-add-self-2
-overflow-add-self-2 c = omega (arith, ap (λ (s : State). s.total) c.loop-q.invariant.0)
+pub overflow_add-self-2 : goal.overflow_add-self-2
+overflow_add-self-2 c = omega (arith, ap (λ (s : State). s.total) c.loop-q.invariant.0)
 
 pub returns : goal.returns
 returns c =
     let s = c.args.self.now in
     let t = table c.args.t.now in
     let h = c.args.h in
-    subst (λ (p : ℕ). After (meet_effect t h (observed t (portless s) h p) (get_or s.cells h 0)) s (record { places = c.loop-q.self.places; cells = c.cells-met-cells.result; meets = set c.loop-q.self.meets h (get_or c.loop-q.self.meets h 0 + 1); total = c.loop-q.self.total + 1 }))
+    subst (λ (p : ℕ). After (meet_effect t h (observed t (portless s) h p) (get_or s.cells h 0)) s (record { places = c.loop-q.self.places; cells = c.cells_met-cells.result; meets = set c.loop-q.self.meets h (get_or c.loop-q.self.meets h 0 + 1); total = c.loop-q.self.total + 1 }))
     c.declarer-p.ensures.is
-    (meet_after t h c.declarer-p.result s c.loop-q.self c.loop-q.q (flags c.counted-counted.result) c.cells-met-cells.result
+    (meet_after t h c.declarer-p.result s c.loop-q.self c.loop-q.q (flags c.counted-counted.result) c.cells_met-cells.result
     c.requires.counts c.requires.inside c.args.t.now.sized.1 c.loop-q.invariant.0 c.loop-q.invariant.1 c.loop-q-test.false
-    c.counted-counted.ensures c.cells-met-cells.ensures.size c.cells-met-cells.ensures.cells)
+    c.counted-counted.ensures c.cells_met-cells.ensures.size c.cells_met-cells.ensures.cells)

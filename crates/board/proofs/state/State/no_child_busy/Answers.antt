@@ -10,11 +10,11 @@ pub loop-c-init : goal.loop-c-init
 loop-c-init c = refl
 
 pub loop-c-preserved : goal.loop-c-preserved
-loop-c-preserved c = none_more (busy_child (table c.args.t.now) (portless c.args.self.now) c.args.p) _ c.loop-c.invariant (sym c.if-busy-child.ensures)
+loop-c-preserved c = none_more (busy_child (table c.args.t.now) (portless c.args.self.now) c.args.p) _ c.loop-c.invariant (sym c.if-busy_child.ensures)
 
-pub returns-then-busy-child : goal.returns-then-busy-child
-returns-then-busy-child c =
-    none_missed (busy_child (table c.args.t.now) (portless c.args.self.now) c.args.p) (table c.args.t.now).places c.loop-c.c (omega arith) (sym c.if-busy-child.ensures)
+pub returns-then-busy_child : goal.returns-then-busy_child
+returns-then-busy_child c =
+    none_missed (busy_child (table c.args.t.now) (portless c.args.self.now) c.args.p) (table c.args.t.now).places c.loop-c.c (omega arith) (sym c.if-busy_child.ensures)
 
 pub returns : goal.returns
 returns c =

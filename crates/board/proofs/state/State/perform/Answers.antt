@@ -1,5 +1,5 @@
 use Rattle.std.proofs.Common.{◌≡◌, ℕ, ◌<◌, ◌≤◌, Bool, true, cond, ◌&&◌, eqb, ltb, List, [], length, get_or, set, vec_items, sym, refl, ap, ◌∙◌, subst, ap₂, arith, length-set}
-use Rattle.std.proofs.lemmas.Bool.{and_parts, ltb-true, eq_eqb, ne_eqb, cond_true, cond-false}
+use Rattle.std.proofs.lemmas.Bool.{and_parts, ltb-true, eq-eqb, ne_eqb, cond-true, cond-false}
 use Rattle.rules.specs.Values.{value}
 use Rattle.rules.specs.Effects.{only, never, nothing}
 use Rattle.rules.specs.Programs.{goto, throw}
@@ -34,8 +34,8 @@ returns-in-Set g c =
     let l : d < length s.cells = omega (arith, ltb-true d 128 n.0, c.requires.counts.0.1) in
     record {
       did =
-          subst (λ (v : Stmt). After (step_effect t p (acted k t s ws x q v)) s c.step-to-in-Set.new.self) (sym c.in-Set.is)
-          (subst (After (step_effect t p (acted k t s ws x q (Set d c.in-Set.e))) s) (sym (c.step-to-in-Set.ensures ∙ ap₂ (λ (u : State) a. stepped u p (Running a)) c.assign.ensures c.after-in-Set.ensures))
+          subst (λ (v : Stmt). After (step_effect t p (acted k t s ws x q v)) s c.step_to-in-Set.new.self) (sym c.in-Set.is)
+          (subst (After (step_effect t p (acted k t s ws x q (Set d c.in-Set.e))) s) (sym (c.step_to-in-Set.ensures ∙ ap₂ (λ (u : State) a. stepped u p (Running a)) c.assign.ensures c.after-in-Set.ensures))
           (pass_after t p (t.after x) (only d v) never s (set s.cells d v) c.requires.counts c.requires.inside (length-set s.cells d v ∙ c.requires.counts.0.1) (only_is s.cells d v l)));
       ports = λ i. sym (ap (λ (v : Stmt). act_words (acted k t s ws x q v) ws i) c.in-Set.is);
     }
@@ -54,8 +54,8 @@ returns-in-Call g c =
     let n = subst (λ (v : Stmt). named (stm q v) ≡ true) c.in-Call.is c.requires.named in
     record {
       did =
-          subst (λ (v : Stmt). After (step_effect t p (acted k t s ws x q v)) s c.step-to-in-Call.new.self) (sym c.in-Call.is)
-          (subst (After (step_effect t p (acted k t s ws x q (Call c.in-Call.list c.in-Call.to))) s) (sym (c.step-to-in-Call.ensures ∙ ap (λ v. stepped v p (Running c.in-Call.to)) (c.copy.ensures ∙ ap (λ v. with_cells s (copied s.cells v)) c.as-slice.ensures.value)))
+          subst (λ (v : Stmt). After (step_effect t p (acted k t s ws x q v)) s c.step_to-in-Call.new.self) (sym c.in-Call.is)
+          (subst (After (step_effect t p (acted k t s ws x q (Call c.in-Call.list c.in-Call.to))) s) (sym (c.step_to-in-Call.ensures ∙ ap (λ v. stepped v p (Running c.in-Call.to)) (c.copy.ensures ∙ ap (λ v. with_cells s (copied s.cells v)) c.as_slice.ensures.value)))
           (pass_after t p c.in-Call.to (copying f (copies list)) never s (copied s.cells list) c.requires.counts c.requires.inside (length_copied s.cells list ∙ c.requires.counts.0.1) (copied_is s.cells list c.requires.counts.0.1 n)));
       ports = λ i. sym (ap (λ (v : Stmt). act_words (acted k t s ws x q v) ws i) c.in-Call.is);
     }
@@ -74,8 +74,8 @@ returns-in-Test g c =
     let y : ℕ = cond (eqb v 0) c.in-Test.to c.in-Test.field-1 in
     record {
       did =
-          subst (λ (v : Stmt). After (step_effect t p (acted k t s ws x q v)) s c.step-to-in-Test.new.self) (sym c.in-Test.is)
-          (subst (After (step_effect t p (acted k t s ws x q (Test c.in-Test.e c.in-Test.field-1 c.in-Test.to))) s) (sym (c.step-to-in-Test.ensures ∙ ap (λ v. stepped s p (Running v)) (sym (cond_true (eqb v 0) c.in-Test.to c.in-Test.field-1 (eq_eqb v 0 (sym c.value.ensures ∙ c.if-value-eq0.true))))))
+          subst (λ (v : Stmt). After (step_effect t p (acted k t s ws x q v)) s c.step_to-in-Test.new.self) (sym c.in-Test.is)
+          (subst (After (step_effect t p (acted k t s ws x q (Test c.in-Test.e c.in-Test.field-1 c.in-Test.to))) s) (sym (c.step_to-in-Test.ensures ∙ ap (λ v. stepped s p (Running v)) (sym (cond-true (eqb v 0) c.in-Test.to c.in-Test.field-1 (eq-eqb v 0 (sym c.value.ensures ∙ c.if-value-eq0.true))))))
           (pass_after t p y nothing never s s.cells c.requires.counts c.requires.inside c.requires.counts.0.1 (λ i. refl)));
       ports = λ i. sym (ap (λ (v : Stmt). act_words (acted k t s ws x q v) ws i) c.in-Test.is);
     }
@@ -98,8 +98,8 @@ returns-in-Test-2 g c =
     let same : c.in-Test-2.to ≡ c.in-Test.field-1 = cc in
     record {
       did =
-          subst (λ (v : Stmt). After (step_effect t p (acted k t s ws x q v)) s c.step-to-in-Test-2.new.self) (sym c.in-Test.is)
-          (subst (After (step_effect t p (acted k t s ws x q (Test c.in-Test.e c.in-Test.field-1 c.in-Test.to))) s) (sym (c.step-to-in-Test-2.ensures ∙ ap (λ v. stepped s p (Running v)) (same ∙ sym (cond-false (eqb v 0) c.in-Test.to c.in-Test.field-1 (ne_eqb v 0 e)))))
+          subst (λ (v : Stmt). After (step_effect t p (acted k t s ws x q v)) s c.step_to-in-Test-2.new.self) (sym c.in-Test.is)
+          (subst (After (step_effect t p (acted k t s ws x q (Test c.in-Test.e c.in-Test.field-1 c.in-Test.to))) s) (sym (c.step_to-in-Test-2.ensures ∙ ap (λ v. stepped s p (Running v)) (same ∙ sym (cond-false (eqb v 0) c.in-Test.to c.in-Test.field-1 (ne_eqb v 0 e)))))
           (pass_after t p y nothing never s s.cells c.requires.counts c.requires.inside c.requires.counts.0.1 (λ i. refl)));
       ports = λ i. sym (ap (λ (v : Stmt). act_words (acted k t s ws x q v) ws i) c.in-Test.is);
     }
@@ -117,28 +117,28 @@ returns-in-Par g c =
     let list : List Copied = vec_items c.in-Par.list in
     let bs : List ℕ = vec_items c.in-Par.branches in
     let n = and_parts (places_in bs) (copies_in (copies list)) (subst (λ (v : Stmt). named (stm q v) ≡ true) c.in-Par.is c.requires.named) in
-    let e : c.copy-in-Par.new.self ≡ with_cells s (copied s.cells list) = c.copy-in-Par.ensures ∙ ap (λ v. with_cells s (copied s.cells v)) c.as-slice-in-Par.ensures.value in
+    let e : c.copy-in-Par.new.self ≡ with_cells s (copied s.cells list) = c.copy-in-Par.ensures ∙ ap (λ v. with_cells s (copied s.cells v)) c.as_slice-in-Par.ensures.value in
     let r : c.fork.new.self ≡ with_places (with_cells s (copied s.cells list)) (forked t.start s.places bs) =
-    c.fork.ensures ∙ ap₂ (λ (v : State) (b : List ℕ). with_places v (forked t.start v.places b)) e c.as-slice-in-Par-2.ensures.value in
+    c.fork.ensures ∙ ap₂ (λ (v : State) (b : List ℕ). with_places v (forked t.start v.places b)) e c.as_slice-in-Par-2.ensures.value in
     record {
       did =
-          subst (λ (v : Stmt). After (step_effect t p (acted k t s ws x q v)) s c.step-to-in-Par.new.self) (sym c.in-Par.is)
-          (subst (After (step_effect t p (acted k t s ws x q (Par c.in-Par.branches c.in-Par.list))) s) (sym (c.step-to-in-Par.ensures ∙ ap (λ (v : State). stepped v p (Parted x)) r))
+          subst (λ (v : Stmt). After (step_effect t p (acted k t s ws x q v)) s c.step_to-in-Par.new.self) (sym c.in-Par.is)
+          (subst (After (step_effect t p (acted k t s ws x q (Par c.in-Par.branches c.in-Par.list))) s) (sym (c.step_to-in-Par.ensures ∙ ap (λ (v : State). stepped v p (Parted x)) r))
           (fork_after t p x (copying f (copies list)) bs s (copied s.cells list) c.requires.counts c.requires.inside (length_copied s.cells list ∙ c.requires.counts.0.1) n.0 (copied_is s.cells list c.requires.counts.0.1 n.1)));
       ports = λ i. sym (ap (λ (v : Stmt). act_words (acted k t s ws x q v) ws i) c.in-Par.is);
     }
 
-pub step-to-requires-in-Par : goal.step-to-requires-in-Par
-step-to-requires-in-Par g c =
+pub step_to-requires-in-Par : goal.step_to-requires-in-Par
+step_to-requires-in-Par g c =
     let t = table c.args.t.now in
     let q = c.args.point.now.place in
     let s = c.args.self.now in
     let list : List Copied = vec_items c.in-Par.list in
     let bs : List ℕ = vec_items c.in-Par.branches in
     let n = and_parts (places_in bs) (copies_in (copies list)) (subst (λ (v : Stmt). named (stm q v) ≡ true) c.in-Par.is c.requires.named) in
-    let e : c.copy-in-Par.new.self ≡ with_cells s (copied s.cells list) = c.copy-in-Par.ensures ∙ ap (λ v. with_cells s (copied s.cells v)) c.as-slice-in-Par.ensures.value in
+    let e : c.copy-in-Par.new.self ≡ with_cells s (copied s.cells list) = c.copy-in-Par.ensures ∙ ap (λ v. with_cells s (copied s.cells v)) c.as_slice-in-Par.ensures.value in
     let r : c.fork.new.self ≡ with_places (with_cells s (copied s.cells list)) (forked t.start s.places bs) =
-    c.fork.ensures ∙ ap₂ (λ (v : State) (b : List ℕ). with_places v (forked t.start v.places b)) e c.as-slice-in-Par-2.ensures.value in
+    c.fork.ensures ∙ ap₂ (λ (v : State) (b : List ℕ). with_places v (forked t.start v.places b)) e c.as_slice-in-Par-2.ensures.value in
     record {
       inside = c.requires.inside;
       few = subst (λ (v : State). (q : ℕ) → (place v q).steps ≤ v.total) (sym r) (forked_few t.start s bs s.total c.requires.counts.0.0 n.0 c.requires.counts.1.0);
@@ -160,9 +160,9 @@ returns-in-Take g c =
     let dry : ws i ≡ [] = g.B.Bank.eight c.args.bank.now i (omega arith) in
     record {
       did =
-          subst (λ (v : Stmt). After (step_effect t p (acted k t s ws x q v)) s c.step-to-in-Take.new.self) (sym c.in-Take.is)
-          (subst (λ (v : List ℕ). After (step_effect t p (taking k i d (t.after x) z v)) s c.step-to-in-Take.new.self) (sym dry)
-          (subst (After (step_effect t p (pass nothing never z)) s) (sym c.step-to-in-Take.ensures)
+          subst (λ (v : Stmt). After (step_effect t p (acted k t s ws x q v)) s c.step_to-in-Take.new.self) (sym c.in-Take.is)
+          (subst (λ (v : List ℕ). After (step_effect t p (taking k i d (t.after x) z v)) s c.step_to-in-Take.new.self) (sym dry)
+          (subst (After (step_effect t p (pass nothing never z)) s) (sym c.step_to-in-Take.ensures)
           (pass_after t p z nothing never s s.cells c.requires.counts c.requires.inside c.requires.counts.0.1 (λ j. refl))));
       ports = λ j. sym (ap (λ (v : Stmt). act_words (acted k t s ws x q v) ws j) c.in-Take.is ∙ ap (λ (v : List ℕ). act_words (taking k i d (t.after x) z v) ws j) dry);
     }
@@ -179,12 +179,12 @@ returns-in-Throw g c =
     let o = c.in-Throw.g in
     let n = c.in-Throw.field-1 in
     let y = c.in-Throw.to in
-    let own : eqb o q ≡ true = eq_eqb o q (omega arith) in
+    let own : eqb o q ≡ true = eq-eqb o q (omega arith) in
     record {
       did =
-          subst (λ (v : Stmt). After (step_effect t p (acted k t s ws x q v)) s c.step-to-in-Throw.new.self) (sym c.in-Throw.is)
-          (subst (λ (b : Bool). After (step_effect t p (act k t (λ c. get_or s.cells c 0) ws x (cond b (goto y) (throw o n)))) s c.step-to-in-Throw.new.self) (sym own)
-          (subst (After (step_effect t p (pass nothing never y)) s) (sym c.step-to-in-Throw.ensures)
+          subst (λ (v : Stmt). After (step_effect t p (acted k t s ws x q v)) s c.step_to-in-Throw.new.self) (sym c.in-Throw.is)
+          (subst (λ (b : Bool). After (step_effect t p (act k t (λ c. get_or s.cells c 0) ws x (cond b (goto y) (throw o n)))) s c.step_to-in-Throw.new.self) (sym own)
+          (subst (After (step_effect t p (pass nothing never y)) s) (sym c.step_to-in-Throw.ensures)
           (pass_after t p y nothing never s s.cells c.requires.counts c.requires.inside c.requires.counts.0.1 (λ j. refl))));
       ports = λ j. sym (ap (λ (v : Stmt). act_words (acted k t s ws x q v) ws j) c.in-Throw.is ∙ ap (λ (b : Bool). act_words (act k t (λ c. get_or s.cells c 0) ws x (cond b (goto y) (throw o n))) ws j) own);
     }

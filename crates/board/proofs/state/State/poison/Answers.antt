@@ -21,8 +21,8 @@ loop-q-preserved c = (
       _ _ (c.poisoned-new.ensures c.loop-q.q)),
 )
 
-pub overflow-add-self : goal.overflow-add-self
-overflow-add-self c = omega (arith, ap (λ (s : State). s.total) c.loop-q.invariant.0)
+pub overflow_add-self : goal.overflow_add-self
+overflow_add-self c = omega (arith, ap (λ (s : State). s.total) c.loop-q.invariant.0)
 
 pub returns : goal.returns
 returns c =

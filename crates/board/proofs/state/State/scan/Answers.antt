@@ -17,8 +17,8 @@ returns c =
     let b = each (closes_of t s) t.places in
     let d = each (meets_of t s) m in
     let e = each (poisons_of t s m) t.places in
-    subst (λ (v : List Move). Scanned c.args.want v c.scan-poisons.new.scan) (append_assoc (a ++ b) d e ∙ append_assoc a b (d ++ e))
-    (c.scan-poisons.ensures c.args.want ((a ++ b) ++ d)
-    (c.scan-meets.ensures.list c.args.want (a ++ b)
-    (c.scan-closes.ensures.list c.args.want a
-    (c.scan-steps.ensures.list c.args.want [] (refl, refl, refl)))))
+    subst (λ (v : List Move). Scanned c.args.want v c.scan_poisons.new.scan) (append_assoc (a ++ b) d e ∙ append_assoc a b (d ++ e))
+    (c.scan_poisons.ensures c.args.want ((a ++ b) ++ d)
+    (c.scan_meets.ensures.list c.args.want (a ++ b)
+    (c.scan_closes.ensures.list c.args.want a
+    (c.scan_steps.ensures.list c.args.want [] (refl, refl, refl)))))

@@ -11,5 +11,5 @@ pub loop-p-preserved : goal.loop-p-preserved
 loop-p-preserved c =
     let f = closes_of (table c.args.t.now) (portless c.args.self.now) in (
       omega (arith, c.offer.ensures.grows),
-      λ w xs h. each_more f c.loop-p.p w xs _ _ (ap (λ b. cond b (close c.loop-p.p ∷ []) []) c.can-close-yes.ensures) (c.offer.ensures.list w (xs ++ each f c.loop-p.p) (c.loop-p.invariant.1 w xs h)),
+      λ w xs h. each_more f c.loop-p.p w xs _ _ (ap (λ b. cond b (close c.loop-p.p ∷ []) []) c.can_close-yes.ensures) (c.offer.ensures.list w (xs ++ each f c.loop-p.p) (c.loop-p.invariant.1 w xs h)),
     )

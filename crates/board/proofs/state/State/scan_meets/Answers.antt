@@ -11,5 +11,5 @@ pub loop-h-preserved : goal.loop-h-preserved
 loop-h-preserved c =
     let f = meets_of (table c.args.t.now) (portless c.args.self.now) in (
       omega (arith, c.offer.ensures.grows),
-      λ w xs h. each_more f c.loop-h.h w xs _ _ (ap (λ b. cond b (meet c.loop-h.h ∷ []) []) c.can-meet-yes.ensures) (c.offer.ensures.list w (xs ++ each f c.loop-h.h) (c.loop-h.invariant.1 w xs h)),
+      λ w xs h. each_more f c.loop-h.h w xs _ _ (ap (λ b. cond b (meet c.loop-h.h ∷ []) []) c.can_meet-yes.ensures) (c.offer.ensures.list w (xs ++ each f c.loop-h.h) (c.loop-h.invariant.1 w xs h)),
     )

@@ -10,11 +10,11 @@ pub loop-c-init : goal.loop-c-init
 loop-c-init c = ap (λ b. b || false) (and_right _ _ refl)
 
 pub loop-c-preserved : goal.loop-c-preserved
-loop-c-preserved c = any_more (spoiled_sibling (table c.args.t.now) (portless c.args.self.now) c.args.p (flags c.args.spoiled.now)) _ c.loop-c.invariant (sym c.if-spoiled-sibling.ensures)
+loop-c-preserved c = any_more (spoiled_sibling (table c.args.t.now) (portless c.args.self.now) c.args.p (flags c.args.spoiled.now)) _ c.loop-c.invariant (sym c.if-spoiled_sibling.ensures)
 
-pub returns-then-spoiled-sibling : goal.returns-then-spoiled-sibling
-returns-then-spoiled-sibling c =
-    sym (any_found (spoiled_sibling (table c.args.t.now) (portless c.args.self.now) c.args.p (flags c.args.spoiled.now)) (table c.args.t.now).places c.loop-c.c (omega arith) (sym c.if-spoiled-sibling.ensures))
+pub returns-then-spoiled_sibling : goal.returns-then-spoiled_sibling
+returns-then-spoiled_sibling c =
+    sym (any_found (spoiled_sibling (table c.args.t.now) (portless c.args.self.now) c.args.p (flags c.args.spoiled.now)) (table c.args.t.now).places c.loop-c.c (omega arith) (sym c.if-spoiled_sibling.ensures))
 
 pub returns : goal.returns
 returns c =

@@ -8,5 +8,5 @@ pub loop-p-preserved : goal.loop-p-preserved
 loop-p-preserved c = (
   simp length-set c.loop-p.invariant.0,
   spoiled_written (table c.args.t.now) (portless c.args.self.now) c.args.h c.args.t.now.lower
-      c.loop-p.out c.loop-p.p _ _ (omega arith) (omega arith) (omega arith) c.loop-p.invariant.1 c.spoiled-one-r.ensures,
+      c.loop-p.out c.loop-p.p _ _ (omega arith) (omega arith) (omega arith) c.loop-p.invariant.1 c.spoiled_one-r.ensures,
 )
