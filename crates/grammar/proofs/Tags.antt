@@ -1,7 +1,7 @@
 -- What a tag says of the token that stands at an index. Facts on all tags are computed over the table of tags.
 use Rattle.std.proofs.Common.{◌≡◌, ℕ, zero, suc, ◌+◌, ◌<◌, ◌≤◌, Bool, true, false, cond, not, ◌&&◌, ◌||◌, T, eqb, ◌⊎◌, List, [], ◌∷◌, length, get_or, drop, sym, refl, ap, ◌∙◌, subst, inl, inr, add-one, arith}
 use Rattle.std.proofs.lemmas.List.{drop_all, get_or_past}
-use Rattle.std.proofs.lemmas.Bool.{cases_lt, both_ways, eq_eqb, ne_eqb}
+use Rattle.std.proofs.lemmas.Bool.{cases_lt, both_ways, eq-eqb, ne_eqb}
 use Rattle.lemmas.proofs.Tests.{T_and}
 use Rattle.reader.specs.declared.token.Token.{Token}
 use Rattle.reader.specs.declared.token.Tag.{Tag}
@@ -228,7 +228,7 @@ sign_within ts at t f h = within ts at (code t) h (end_apart t f)
 
 -- a tag that was read, as a test
 pub seen : (ts : List Token) (at : ℕ) (w : Token) (t : Tag) → w ≡ token_at ts at → w.tag ≡ t → eqb (code (token_at ts at).tag) (code t) ≡ true
-seen ts at w t e h = eq_eqb (code (token_at ts at).tag) (code t) (ap (λ (x : Token). code x.tag) (sym e) ∙ ap code h)
+seen ts at w t e h = eq-eqb (code (token_at ts at).tag) (code t) (ap (λ (x : Token). code x.tag) (sym e) ∙ ap code h)
 
 pub unseen : (ts : List Token) (at : ℕ) (w : Token) (t : Tag) → w ≡ token_at ts at → (w.tag ≡ t → ⊥) → eqb (code (token_at ts at).tag) (code t) ≡ false
 unseen ts at w t e n = ne_eqb (code (token_at ts at).tag) (code t) (λ q. n (ap (λ (x : Token). x.tag) e ∙ tag_is (token_at ts at).tag t q))

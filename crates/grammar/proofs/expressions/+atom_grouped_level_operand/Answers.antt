@@ -23,8 +23,8 @@ use Rattle.grammar.proofs.ExpressionSteps.{
 }
 use Rattle.grammar.proofs.expressions.+atom_grouped_level_operand.Goals as goal
 
-pub atom-overflow-add-result : goal.atom-overflow-add-result
-atom-overflow-add-result t c = let l = within c.args.tokens.now c.args.at 0 (sym c.sees.ensures ∙ c.if-sees.true) refl in omega arith
+pub atom-overflow_add-result : goal.atom-overflow_add-result
+atom-overflow_add-result t c = let l = within c.args.tokens.now c.args.at 0 (sym c.sees.ensures ∙ c.if-sees.true) refl in omega arith
 
 pub atom-returns-then-sees : goal.atom-returns-then-sees
 atom-returns-then-sees t c =
@@ -32,8 +32,8 @@ atom-returns-then-sees t c =
     let l = within c.args.tokens.now c.args.at 0 h refl in
     record { tells = λ text. valued _ (atom_name text c.args.tokens.now c.args.at c.args.room c.token-word.result c.token-word.ensures h); beyond = (omega arith, omega arith) }
 
-pub atom-overflow-add-result-then-sees-2 : goal.atom-overflow-add-result-then-sees-2
-atom-overflow-add-result-then-sees-2 t c = let l = within c.args.tokens.now c.args.at 1 (sym c.sees-2.ensures ∙ c.if-sees-2.true) refl in omega arith
+pub atom-overflow_add-result-then-sees-2 : goal.atom-overflow_add-result-then-sees-2
+atom-overflow_add-result-then-sees-2 t c = let l = within c.args.tokens.now c.args.at 1 (sym c.sees-2.ensures ∙ c.if-sees-2.true) refl in omega arith
 
 pub atom-returns-then-sees-2 : goal.atom-returns-then-sees-2
 atom-returns-then-sees-2 t c =
@@ -48,29 +48,29 @@ atom-returns t c =
     let k = sym c.sees-2.ensures ∙ c.if-sees-2.false in
     record { tells = λ text. via (atom_grouped text c.args.tokens.now c.args.at c.args.room h k) (c.grouped.ensures.tells text); beyond = c.grouped.ensures.beyond }
 
-pub grouped-returns-in-err-inside : goal.grouped-returns-in-err-inside
-grouped-returns-in-err-inside t c =
-    let p = err_from_is_err_and c.from-residual.result c.from-residual.ensures.1 in
-    record { tells = λ text. via (grouped_step c.args.room (from text c.args.tokens.now c.args.at)) (stopped _ p.1 p.2 (c.in-err-inside.ensures.tells text)); beyond = unmade _ p.1 }
+pub grouped-returns-in_err-inside : goal.grouped-returns-in_err-inside
+grouped-returns-in_err-inside t c =
+    let p = err_from_is_err_and c.from_residual.result c.from_residual.ensures.1 in
+    record { tells = λ text. via (grouped_step c.args.room (from text c.args.tokens.now c.args.at)) (stopped _ p.1 p.2 (c.in_err-inside.ensures.tells text)); beyond = unmade _ p.1 }
 
-pub grouped-returns-in-err-inner : goal.grouped-returns-in-err-inner
-grouped-returns-in-err-inner t c =
-    let p = err_from_is_err_and c.from-residual-in-err-inner.result c.from-residual-in-err-inner.ensures.1 in
+pub grouped-returns-in_err-inner : goal.grouped-returns-in_err-inner
+grouped-returns-in_err-inner t c =
+    let p = err_from_is_err_and c.from_residual-in_err-inner.result c.from_residual-in_err-inner.ensures.1 in
     record {
       tells = λ text.
-          let h = told (c.in-ok-inside.ensures.tells text) in
-          via (grouped_step c.args.room (from text c.args.tokens.now c.args.at)) (rw h (stopped _ p.1 p.2 (c.in-err-inner.ensures.tells text)));
+          let h = told (c.in_ok-inside.ensures.tells text) in
+          via (grouped_step c.args.room (from text c.args.tokens.now c.args.at)) (rw h (stopped _ p.1 p.2 (c.in_err-inner.ensures.tells text)));
       beyond = unmade _ p.1;
     }
 
-pub grouped-returns-in-err-after : goal.grouped-returns-in-err-after
-grouped-returns-in-err-after t c =
-    let p = err_from_is_err_and c.from-residual-in-err-after.result c.from-residual-in-err-after.ensures.1 in
+pub grouped-returns-in_err-after : goal.grouped-returns-in_err-after
+grouped-returns-in_err-after t c =
+    let p = err_from_is_err_and c.from_residual-in_err-after.result c.from_residual-in_err-after.ensures.1 in
     record {
       tells = λ text.
-          let h = told (c.in-ok-inside.ensures.tells text) in
-          let i = told (c.in-ok-inner.ensures.tells text) in
-          via (grouped_step c.args.room (from text c.args.tokens.now c.args.at)) (rw (h, i) (stopped _ p.1 p.2 (c.in-err-after.ensures.tells text)));
+          let h = told (c.in_ok-inside.ensures.tells text) in
+          let i = told (c.in_ok-inner.ensures.tells text) in
+          via (grouped_step c.args.room (from text c.args.tokens.now c.args.at)) (rw (h, i) (stopped _ p.1 p.2 (c.in_err-after.ensures.tells text)));
       beyond = unmade _ p.1;
     }
 
@@ -78,64 +78,64 @@ pub grouped-returns : goal.grouped-returns
 grouped-returns t c =
     record {
       tells = λ text.
-          let h = told (c.in-ok-inside.ensures.tells text) in
-          let i = told (c.in-ok-inner.ensures.tells text) in
-          let j = told (c.in-ok-after.ensures.tells text) in
+          let h = told (c.in_ok-inside.ensures.tells text) in
+          let i = told (c.in_ok-inner.ensures.tells text) in
+          let j = told (c.in_ok-after.ensures.tells text) in
           via (grouped_step c.args.room (from text c.args.tokens.now c.args.at)) (valued _ (rw (h, i, j)));
-      beyond = let a = c.in-ok-inside.ensures.beyond in let b = c.in-ok-inner.ensures.beyond in let d = c.in-ok-after.ensures.beyond in (omega arith, omega arith);
+      beyond = let a = c.in_ok-inside.ensures.beyond in let b = c.in_ok-inner.ensures.beyond in let d = c.in_ok-after.ensures.beyond in (omega arith, omega arith);
     }
 
-pub operand-overflow-add-at : goal.operand-overflow-add-at
-operand-overflow-add-at t c = let l = sign_within c.args.tokens.now c.args.at tags.Minus refl (sym c.sees.ensures ∙ c.if-sees.true) in omega arith
+pub operand-overflow_add-at : goal.operand-overflow_add-at
+operand-overflow_add-at t c = let l = sign_within c.args.tokens.now c.args.at tags.Minus refl (sym c.sees.ensures ∙ c.if-sees.true) in omega arith
 
-pub operand-returns-in-err-inner : goal.operand-returns-in-err-inner
-operand-returns-in-err-inner t c =
-    let p = err_from_is_err_and c.from-residual.result c.from-residual.ensures.1 in
+pub operand-returns-in_err-inner : goal.operand-returns-in_err-inner
+operand-returns-in_err-inner t c =
+    let p = err_from_is_err_and c.from_residual.result c.from_residual.ensures.1 in
     record {
       tells = λ text.
-          via (operand_minus text c.args.tokens.now c.args.at c.args.room (sym c.sees.ensures ∙ c.if-sees.true)) (stopped _ p.1 p.2 (c.in-err-inner.ensures.tells text));
+          via (operand_minus text c.args.tokens.now c.args.at c.args.room (sym c.sees.ensures ∙ c.if-sees.true)) (stopped _ p.1 p.2 (c.in_err-inner.ensures.tells text));
       beyond = unmade _ p.1;
     }
 
-pub operand-returns-in-err-negated : goal.operand-returns-in-err-negated
-operand-returns-in-err-negated t c =
-    let p = err_from_is_err_and c.from-residual-in-err-negated.result c.from-residual-in-err-negated.ensures.1 in
-    record { tells = λ text. starved _ p.1 (p.2 ∙ memory (c.in-err-negated.ensures text)); beyond = unmade _ p.1 }
+pub operand-returns-in_err-negated : goal.operand-returns-in_err-negated
+operand-returns-in_err-negated t c =
+    let p = err_from_is_err_and c.from_residual-in_err-negated.result c.from_residual-in_err-negated.ensures.1 in
+    record { tells = λ text. starved _ p.1 (p.2 ∙ memory (c.in_err-negated.ensures text)); beyond = unmade _ p.1 }
 
-pub operand-returns-in-ok-negated : goal.operand-returns-in-ok-negated
-operand-returns-in-ok-negated t c =
+pub operand-returns-in_ok-negated : goal.operand-returns-in_ok-negated
+operand-returns-in_ok-negated t c =
     record {
       tells = λ text.
-          let h = told (c.in-ok-inner.ensures.tells text) in
-          let m = made_is (c.in-ok-negated.ensures text) in
-          via (operand_minus text c.args.tokens.now c.args.at c.args.room (sym c.sees.ensures ∙ c.if-sees.true)) (valued _ (rw h (ap (λ (x : Exp). Ok (x, from text c.args.tokens.now c.in-ok-inner.next)) m)));
-      beyond = let b = c.in-ok-inner.ensures.beyond in (omega arith, omega arith);
+          let h = told (c.in_ok-inner.ensures.tells text) in
+          let m = made_is (c.in_ok-negated.ensures text) in
+          via (operand_minus text c.args.tokens.now c.args.at c.args.room (sym c.sees.ensures ∙ c.if-sees.true)) (valued _ (rw h (ap (λ (x : Exp). Ok (x, from text c.args.tokens.now c.in_ok-inner.next)) m)));
+      beyond = let b = c.in_ok-inner.ensures.beyond in (omega arith, omega arith);
     }
 
 pub operand-returns-else-sees : goal.operand-returns-else-sees
 operand-returns-else-sees t c =
     record { tells = λ text. via (operand_plain text c.args.tokens.now c.args.at c.args.room (sym c.sees.ensures ∙ c.if-sees.false)) (c.atom-else-sees.ensures.tells text); beyond = c.atom-else-sees.ensures.beyond }
 
-pub level-returns-in-err-first : goal.level-returns-in-err-first
-level-returns-in-err-first t c =
-    let p = err_from_is_err_and c.from-residual.result c.from-residual.ensures.1 in
-    record { tells = λ text. via (level_more c.args.room c.args.rank (from text c.args.tokens.now c.args.at) c.if-rank-eq0.false) (stopped _ p.1 p.2 (c.in-err-first.ensures.tells text)); beyond = unmade _ p.1 }
+pub level-returns-in_err-first : goal.level-returns-in_err-first
+level-returns-in_err-first t c =
+    let p = err_from_is_err_and c.from_residual.result c.from_residual.ensures.1 in
+    record { tells = λ text. via (level_more c.args.room c.args.rank (from text c.args.tokens.now c.args.at) c.if-rank-eq0.false) (stopped _ p.1 p.2 (c.in_err-first.ensures.tells text)); beyond = unmade _ p.1 }
 
 pub level-loop-op-init : goal.level-loop-op-init
 level-loop-op-init t c =
-    let b = c.in-ok-first.ensures.beyond in (
+    let b = c.in_ok-first.ensures.beyond in (
       omega arith,
       omega arith,
       omega arith,
       λ text.
-          let h = told (c.in-ok-first.ensures.tells text) in
-          let e = from_length text c.args.tokens.now c.in-ok-first.next in
-          (suc (length (from text c.args.tokens.now c.in-ok-first.next)), omega arith, level_more c.args.room c.args.rank (from text c.args.tokens.now c.args.at) c.if-rank-eq0.false ∙ rw h refl),
+          let h = told (c.in_ok-first.ensures.tells text) in
+          let e = from_length text c.args.tokens.now c.in_ok-first.next in
+          (suc (length (from text c.args.tokens.now c.in_ok-first.next)), omega arith, level_more c.args.room c.args.rank (from text c.args.tokens.now c.args.at) c.if-rank-eq0.false ∙ rw h refl),
     )
 
-pub level-returns-in-err-right : goal.level-returns-in-err-right
-level-returns-in-err-right t c =
-    let p = err_from_is_err_and c.from-residual-in-err-right.result c.from-residual-in-err-right.ensures.1 in
+pub level-returns-in_err-right : goal.level-returns-in_err-right
+level-returns-in_err-right t c =
+    let p = err_from_is_err_and c.from_residual-in_err-right.result c.from_residual-in_err-right.ensures.1 in
     record {
       tells = λ text.
           let i = c.loop-op.invariant.3 text in
@@ -143,18 +143,18 @@ level-returns-in-err-right t c =
           let l = op_within text c.args.tokens.now c.loop-op.here (signs_of c.args.rank) (operator c.in-Some.op) o in
           let n = c.loop-op.invariant.1 in
           let e = i.2 ∙ chain_from text c.args.tokens.now c.loop-op.here (signs_of c.args.rank) (level_at c.args.room (c.args.rank - 1)) (exp text c.loop-op.left) i.0 (operator c.in-Some.op) (omega (arith, i.1)) o in
-          via e (stopped _ p.1 p.2 (c.in-err-right.ensures.tells text));
+          via e (stopped _ p.1 p.2 (c.in_err-right.ensures.tells text));
       beyond = unmade _ p.1;
     }
 
-pub level-returns-in-err-left : goal.level-returns-in-err-left
-level-returns-in-err-left t c =
-    let p = err_from_is_err_and c.from-residual-in-err-left.result c.from-residual-in-err-left.ensures.1 in
-    record { tells = λ text. starved _ p.1 (p.2 ∙ memory (c.in-err-left.ensures text)); beyond = unmade _ p.1 }
+pub level-returns-in_err-left : goal.level-returns-in_err-left
+level-returns-in_err-left t c =
+    let p = err_from_is_err_and c.from_residual-in_err-left.result c.from_residual-in_err-left.ensures.1 in
+    record { tells = λ text. starved _ p.1 (p.2 ∙ memory (c.in_err-left.ensures text)); beyond = unmade _ p.1 }
 
 pub level-loop-op-preserved : goal.level-loop-op-preserved
 level-loop-op-preserved t c =
-    let b = c.in-ok-right.ensures.beyond in
+    let b = c.in_ok-right.ensures.beyond in
     let v = c.loop-op.invariant in (
       omega (arith, v.0),
       omega arith,
@@ -165,11 +165,11 @@ level-loop-op-preserved t c =
           let l = op_within text c.args.tokens.now c.loop-op.here (signs_of c.args.rank) (operator c.in-Some.op) o in
           let n = c.loop-op.invariant.1 in
           let e = i.2 ∙ chain_from text c.args.tokens.now c.loop-op.here (signs_of c.args.rank) (level_at c.args.room (c.args.rank - 1)) (exp text c.loop-op.left) i.0 (operator c.in-Some.op) (omega (arith, i.1)) o in
-          let h = told (c.in-ok-right.ensures.tells text) in
-          let m = made_is (c.in-ok-left.ensures text) in (
+          let h = told (c.in_ok-right.ensures.tells text) in
+          let m = made_is (c.in_ok-left.ensures text) in (
             i.0 - 1,
             omega (arith, i.1),
-            e ∙ rw h (ap (λ (x : Exp). chain (signs_of c.args.rank) (level_at c.args.room (c.args.rank - 1)) (i.0 - 1) x (from text c.args.tokens.now c.in-ok-right.after)) m),
+            e ∙ rw h (ap (λ (x : Exp). chain (signs_of c.args.rank) (level_at c.args.room (c.args.rank - 1)) (i.0 - 1) x (from text c.args.tokens.now c.in_ok-right.after)) m),
           ),
     )
 
@@ -179,6 +179,6 @@ level-returns t c =
       tells = λ text.
           let i = c.loop-op.invariant.3 text in
           let n = c.loop-op.invariant.1 in
-          valued _ (i.2 ∙ chain_stop (signs_of c.args.rank) (level_at c.args.room (c.args.rank - 1)) (exp text c.loop-op.left) (from text c.args.tokens.now c.loop-op.here) i.0 (omega (arith, i.1)) (c.in-default.ensures text));
+          valued _ (i.2 ∙ chain_stop (signs_of c.args.rank) (level_at c.args.room (c.args.rank - 1)) (exp text c.loop-op.left) (from text c.args.tokens.now c.loop-op.here) i.0 (omega (arith, i.1)) (c.in_default.ensures text));
       beyond = (c.loop-op.invariant.0, c.loop-op.invariant.1);
     }

@@ -19,14 +19,14 @@ returns-in-Less c text = op_less text c.args.tokens.now c.args.at c.args.rank tr
 pub returns-in-Equals : goal.returns-in-Equals
 returns-in-Equals c text = op_equal text c.args.tokens.now c.args.at c.args.rank true c.if-rank-eq1.false c.if-rank-eq2.false c.if-rank-eq3.false (seen c.args.tokens.now c.args.at c.token-tag.result tags.Equals c.token-tag.ensures c.in-Equals.is)
 
-pub returns-in-default : goal.returns-in-default
-returns-in-default c text = op_product text c.args.tokens.now c.args.at c.args.rank false c.if-rank-eq1.true (unseen c.args.tokens.now c.args.at c.token-tag.result tags.Star c.token-tag.ensures c.in-default.not-Star)
+pub returns-in_default : goal.returns-in_default
+returns-in_default c text = op_product text c.args.tokens.now c.args.at c.args.rank false c.if-rank-eq1.true (unseen c.args.tokens.now c.args.at c.token-tag.result tags.Star c.token-tag.ensures c.in_default.not-Star)
 
-pub returns-in-default-tag : goal.returns-in-default-tag
-returns-in-default-tag c text = op_sum text c.args.tokens.now c.args.at c.args.rank false false c.if-rank-eq2.true (unseen c.args.tokens.now c.args.at c.token-tag.result tags.Plus c.token-tag.ensures c.in-default-tag.not-Plus) (unseen c.args.tokens.now c.args.at c.token-tag.result tags.Minus c.token-tag.ensures c.in-default-tag.not-Minus)
+pub returns-in_default-tag : goal.returns-in_default-tag
+returns-in_default-tag c text = op_sum text c.args.tokens.now c.args.at c.args.rank false false c.if-rank-eq2.true (unseen c.args.tokens.now c.args.at c.token-tag.result tags.Plus c.token-tag.ensures c.in_default-tag.not-Plus) (unseen c.args.tokens.now c.args.at c.token-tag.result tags.Minus c.token-tag.ensures c.in_default-tag.not-Minus)
 
-pub returns-in-default-tag-2 : goal.returns-in-default-tag-2
-returns-in-default-tag-2 c text = op_less text c.args.tokens.now c.args.at c.args.rank false c.if-rank-eq3.true (unseen c.args.tokens.now c.args.at c.token-tag.result tags.Less c.token-tag.ensures c.in-default-tag-2.not-Less)
+pub returns-in_default-tag-2 : goal.returns-in_default-tag-2
+returns-in_default-tag-2 c text = op_less text c.args.tokens.now c.args.at c.args.rank false c.if-rank-eq3.true (unseen c.args.tokens.now c.args.at c.token-tag.result tags.Less c.token-tag.ensures c.in_default-tag-2.not-Less)
 
-pub returns-in-default-tag-3 : goal.returns-in-default-tag-3
-returns-in-default-tag-3 c text = op_equal text c.args.tokens.now c.args.at c.args.rank false c.if-rank-eq1.false c.if-rank-eq2.false c.if-rank-eq3.false (unseen c.args.tokens.now c.args.at c.token-tag.result tags.Equals c.token-tag.ensures c.in-default-tag-3.not-Equals)
+pub returns-in_default-tag-3 : goal.returns-in_default-tag-3
+returns-in_default-tag-3 c text = op_equal text c.args.tokens.now c.args.at c.args.rank false c.if-rank-eq1.false c.if-rank-eq2.false c.if-rank-eq3.false (unseen c.args.tokens.now c.args.at c.token-tag.result tags.Equals c.token-tag.ensures c.in_default-tag-3.not-Equals)

@@ -3,8 +3,8 @@ use Rattle.grammar.proofs.Tags.{sign_within}
 use Rattle.grammar.proofs.Telling.{valued, via, refuses, eat_yes, eat_no}
 use Rattle.grammar.proofs.look.eat.Goals as goal
 
-pub overflow-add-result : goal.overflow-add-result
-overflow-add-result c = let l = sign_within c.args.tokens.now c.args.at c.args.tag c.requires (sym c.sees.ensures ∙ c.if-sees.true) in omega arith
+pub overflow_add-result : goal.overflow_add-result
+overflow_add-result c = let l = sign_within c.args.tokens.now c.args.at c.args.tag c.requires (sym c.sees.ensures ∙ c.if-sees.true) in omega arith
 
 pub returns-then-sees : goal.returns-then-sees
 returns-then-sees c =
@@ -15,4 +15,4 @@ returns-then-sees c =
 pub returns-else-sees : goal.returns-else-sees
 returns-else-sees c =
     let h = sym c.sees.ensures ∙ c.if-sees.false in
-    record { tells = λ text. refuses c.not-allowed.ensures (eat_no text c.args.tokens.now c.args.at c.args.tag c.requires h); beyond = tt }
+    record { tells = λ text. refuses c.not_allowed.ensures (eat_no text c.args.tokens.now c.args.at c.args.tag c.requires h); beyond = tt }

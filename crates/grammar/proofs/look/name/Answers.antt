@@ -3,8 +3,8 @@ use Rattle.grammar.proofs.Tags.{within}
 use Rattle.grammar.proofs.Telling.{valued, refuses, name_yes, name_no}
 use Rattle.grammar.proofs.look.name.Goals as goal
 
-pub overflow-add-result : goal.overflow-add-result
-overflow-add-result c = let l = within c.args.tokens.now c.args.at 0 (sym c.sees.ensures ∙ c.if-sees.true) refl in omega arith
+pub overflow_add-result : goal.overflow_add-result
+overflow_add-result c = let l = within c.args.tokens.now c.args.at 0 (sym c.sees.ensures ∙ c.if-sees.true) refl in omega arith
 
 pub returns-then-sees : goal.returns-then-sees
 returns-then-sees c =
@@ -18,4 +18,4 @@ returns-then-sees c =
 pub returns-else-sees : goal.returns-else-sees
 returns-else-sees c =
     let h = sym c.sees.ensures ∙ c.if-sees.false in
-    record { tells = λ text. refuses c.not-allowed.ensures (name_no text c.args.tokens.now c.args.at h); beyond = tt }
+    record { tells = λ text. refuses c.not_allowed.ensures (name_no text c.args.tokens.now c.args.at h); beyond = tt }

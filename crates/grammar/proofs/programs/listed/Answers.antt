@@ -5,33 +5,33 @@ use Rattle.grammar.proofs.Telling.{told, via, valued, stopped, unmade}
 use Rattle.grammar.proofs.ProgramSteps.{listed_step}
 use Rattle.grammar.proofs.programs.listed.Goals as goal
 
-pub returns-in-err-inside : goal.returns-in-err-inside
-returns-in-err-inside c =
-    let p = err_from_is_err_and c.from-residual.result c.from-residual.ensures.1 in
+pub returns-in_err-inside : goal.returns-in_err-inside
+returns-in_err-inside c =
+    let p = err_from_is_err_and c.from_residual.result c.from_residual.ensures.1 in
     record {
       tells = λ text.
-          via (listed_step (from text c.args.tokens.now c.args.at)) (stopped _ p.1 p.2 (c.in-err-inside.ensures.tells text));
+          via (listed_step (from text c.args.tokens.now c.args.at)) (stopped _ p.1 p.2 (c.in_err-inside.ensures.tells text));
       beyond = unmade _ p.1;
     }
 
-pub returns-in-err-params : goal.returns-in-err-params
-returns-in-err-params c =
-    let p = err_from_is_err_and c.from-residual-in-err-params.result c.from-residual-in-err-params.ensures.1 in
+pub returns-in_err-params : goal.returns-in_err-params
+returns-in_err-params c =
+    let p = err_from_is_err_and c.from_residual-in_err-params.result c.from_residual-in_err-params.ensures.1 in
     record {
       tells = λ text.
-          let h0 = told (c.in-ok-inside.ensures.tells text) in
-          via (listed_step (from text c.args.tokens.now c.args.at)) (rw h0 (stopped _ p.1 p.2 (c.in-err-params.ensures.tells text)));
+          let h0 = told (c.in_ok-inside.ensures.tells text) in
+          via (listed_step (from text c.args.tokens.now c.args.at)) (rw h0 (stopped _ p.1 p.2 (c.in_err-params.ensures.tells text)));
       beyond = unmade _ p.1;
     }
 
-pub returns-in-err-after : goal.returns-in-err-after
-returns-in-err-after c =
-    let p = err_from_is_err_and c.from-residual-in-err-after.result c.from-residual-in-err-after.ensures.1 in
+pub returns-in_err-after : goal.returns-in_err-after
+returns-in_err-after c =
+    let p = err_from_is_err_and c.from_residual-in_err-after.result c.from_residual-in_err-after.ensures.1 in
     record {
       tells = λ text.
-          let h0 = told (c.in-ok-inside.ensures.tells text) in
-          let h1 = told (c.in-ok-params.ensures.tells text) in
-          via (listed_step (from text c.args.tokens.now c.args.at)) (rw (h0, h1) (stopped _ p.1 p.2 (c.in-err-after.ensures.tells text)));
+          let h0 = told (c.in_ok-inside.ensures.tells text) in
+          let h1 = told (c.in_ok-params.ensures.tells text) in
+          via (listed_step (from text c.args.tokens.now c.args.at)) (rw (h0, h1) (stopped _ p.1 p.2 (c.in_err-after.ensures.tells text)));
       beyond = unmade _ p.1;
     }
 
@@ -39,9 +39,9 @@ pub returns : goal.returns
 returns c =
     record {
       tells = λ text.
-          let h0 = told (c.in-ok-inside.ensures.tells text) in
-          let h1 = told (c.in-ok-params.ensures.tells text) in
-          let h2 = told (c.in-ok-after.ensures.tells text) in
+          let h0 = told (c.in_ok-inside.ensures.tells text) in
+          let h1 = told (c.in_ok-params.ensures.tells text) in
+          let h2 = told (c.in_ok-after.ensures.tells text) in
           via (listed_step (from text c.args.tokens.now c.args.at)) (valued _ (rw (h0, h1, h2)));
-      beyond = let b0 = c.in-ok-inside.ensures.beyond in let b1 = c.in-ok-params.ensures.onward in let b2 = c.in-ok-after.ensures.beyond in (omega arith, omega arith);
+      beyond = let b0 = c.in_ok-inside.ensures.beyond in let b1 = c.in_ok-params.ensures.onward in let b2 = c.in_ok-after.ensures.beyond in (omega arith, omega arith);
     }

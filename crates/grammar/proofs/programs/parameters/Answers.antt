@@ -21,30 +21,30 @@ returns-then-sees c =
     let l = sign_within c.args.tokens.now c.args.at tags.CloseParen refl h in
     record { tells = λ text. let e = c.new-params.ensures.items in valued _ (rw e (parameters_none text c.args.tokens.now c.args.at h)); onward = (omega arith, omega arith) }
 
-pub returns-in-err-first : goal.returns-in-err-first
-returns-in-err-first c =
-    let p = err_from_is_err_and c.from-residual.result c.from-residual.ensures.1 in
+pub returns-in_err-first : goal.returns-in_err-first
+returns-in_err-first c =
+    let p = err_from_is_err_and c.from_residual.result c.from_residual.ensures.1 in
     record {
-      tells = λ text. via (parameters_some text c.args.tokens.now c.args.at (sym c.sees.ensures ∙ c.if-sees.false)) (stopped _ p.1 p.2 (c.in-err-first.ensures.tells text));
+      tells = λ text. via (parameters_some text c.args.tokens.now c.args.at (sym c.sees.ensures ∙ c.if-sees.false)) (stopped _ p.1 p.2 (c.in_err-first.ensures.tells text));
       onward = unmade _ p.1;
     }
 
-pub returns-in-err-push : goal.returns-in-err-push
-returns-in-err-push c =
-    let p = err_from_is_err_and c.from-residual-in-err-push.result c.from-residual-in-err-push.ensures.1 in
+pub returns-in_err-push : goal.returns-in_err-push
+returns-in_err-push c =
+    let p = err_from_is_err_and c.from_residual-in_err-push.result c.from_residual-in_err-push.ensures.1 in
     record { tells = λ text. starved _ p.1 p.2; onward = unmade _ p.1 }
 
 pub loop-params-init : goal.loop-params-init
 loop-params-init c =
-    let b = c.in-ok-first.ensures.beyond in (
+    let b = c.in_ok-first.ensures.beyond in (
       omega arith,
       omega arith,
       λ text.
-          let h = told (c.in-ok-first.ensures.tells text) in
+          let h = told (c.in_ok-first.ensures.tells text) in
           parameters_some text c.args.tokens.now c.args.at (sym c.sees.ensures ∙ c.if-sees.false)
           ∙ then (λ r. more_params_at 7 r.1 >>= (λ s. Ok (r.0 ∷ s.0, s.1))) h
-          ∙ ap (λ (xs : List code-param.Param). in_front (view.params text xs) (more_params_at 7 (from text c.args.tokens.now c.in-ok-first.next)))
-          (sym (c.in-ok-push.ensures.items ∙ ap (λ (ys : List code-param.Param). ys ++ c.in-ok-first.first ∷ []) c.new-params.ensures.items)),
+          ∙ ap (λ (xs : List code-param.Param). in_front (view.params text xs) (more_params_at 7 (from text c.args.tokens.now c.in_ok-first.next)))
+          (sym (c.in_ok-push.ensures.items ∙ ap (λ (ys : List code-param.Param). ys ++ c.in_ok-first.first ∷ []) c.new-params.ensures.items)),
     )
 
 pub returns-then-left-eq0 : goal.returns-then-left-eq0
@@ -58,26 +58,26 @@ returns-then-left-eq0 c =
       onward = (c.loop-params.invariant.0, c.loop-params.invariant.1);
     }
 
-pub returns-in-err-more : goal.returns-in-err-more
-returns-in-err-more c =
-    let p = err_from_is_err_and c.from-residual-in-err-more.result c.from-residual-in-err-more.ensures.1 in
+pub returns-in_err-more : goal.returns-in_err-more
+returns-in_err-more c =
+    let p = err_from_is_err_and c.from_residual-in_err-more.result c.from_residual-in_err-more.ensures.1 in
     record {
       tells = λ text.
           let i = c.loop-params.invariant.2 text in
           let x = view.view_params text c.loop-params.params in
           let e = more_params_go text c.args.tokens.now c.loop-params.here c.loop-params.left c.if-left-eq0.false (sym c.sees-in-loop-params.ensures ∙ c.loop-params-test.true) in
-          via (i ∙ ap (in_front x) e) (stopped _ p.1 p.2 (broken {g = λ (v : List Param × Tokens). v} _ (c.in-err-more.ensures.tells text)));
+          via (i ∙ ap (in_front x) e) (stopped _ p.1 p.2 (broken {g = λ (v : List Param × Tokens). v} _ (c.in_err-more.ensures.tells text)));
       onward = unmade _ p.1;
     }
 
-pub returns-in-err-push-2 : goal.returns-in-err-push-2
-returns-in-err-push-2 c =
-    let p = err_from_is_err_and c.from-residual-in-err-push-2.result c.from-residual-in-err-push-2.ensures.1 in
+pub returns-in_err-push-2 : goal.returns-in_err-push-2
+returns-in_err-push-2 c =
+    let p = err_from_is_err_and c.from_residual-in_err-push-2.result c.from_residual-in_err-push-2.ensures.1 in
     record { tells = λ text. starved _ p.1 p.2; onward = unmade _ p.1 }
 
 pub loop-params-preserved : goal.loop-params-preserved
 loop-params-preserved c =
-    let b = c.in-ok-more.ensures.beyond in
+    let b = c.in_ok-more.ensures.beyond in
     let v = c.loop-params.invariant in (
       omega (arith, v.0),
       omega arith,
@@ -85,11 +85,11 @@ loop-params-preserved c =
           let i = c.loop-params.invariant.2 text in
           let x = view.view_params text c.loop-params.params in
           let e = more_params_go text c.args.tokens.now c.loop-params.here c.loop-params.left c.if-left-eq0.false (sym c.sees-in-loop-params.ensures ∙ c.loop-params-test.true) in
-          let h = told (c.in-ok-more.ensures.tells text) in
+          let h = told (c.in_ok-more.ensures.tells text) in
           let y = view.view_params text c.push-in-loop-params.new.self in
-          i ∙ gather (more_params_at c.loop-params.left (from text c.args.tokens.now c.loop-params.here)) (more_params_at (c.loop-params.left - 1) (from text c.args.tokens.now c.in-ok-more.after)) x y
-          (view.param text c.in-ok-more.more) (e ∙ then (λ r. more_params_at (c.loop-params.left - 1) r.1 >>= (λ s. Ok (r.0 ∷ s.0, s.1))) h)
-          (ap (λ (xs : List code-param.Param). view.params text xs) c.in-ok-push-2.ensures.items ∙ params_push text (vec_items c.loop-params.params) c.in-ok-more.more),
+          i ∙ gather (more_params_at c.loop-params.left (from text c.args.tokens.now c.loop-params.here)) (more_params_at (c.loop-params.left - 1) (from text c.args.tokens.now c.in_ok-more.after)) x y
+          (view.param text c.in_ok-more.more) (e ∙ then (λ r. more_params_at (c.loop-params.left - 1) r.1 >>= (λ s. Ok (r.0 ∷ s.0, s.1))) h)
+          (ap (λ (xs : List code-param.Param). view.params text xs) c.in_ok-push-2.ensures.items ∙ params_push text (vec_items c.loop-params.params) c.in_ok-more.more),
     )
 
 pub returns : goal.returns

@@ -26,40 +26,40 @@ loop-heap-init c = (
       ),
 )
 
-pub returns-in-err-more : goal.returns-in-err-more
-returns-in-err-more c =
-    let p = err_from_is_err_and c.from-residual.result c.from-residual.ensures.1 in
+pub returns-in_err-more : goal.returns-in_err-more
+returns-in_err-more c =
+    let p = err_from_is_err_and c.from_residual.result c.from_residual.ensures.1 in
     record {
       tells = λ text.
           let i = c.loop-heap.invariant.1 text in
           let n = c.loop-heap.invariant.0 in
           let x = view.view_procs text c.loop-heap.procs in
           let e = procedures_go text c.args.tokens.now c.loop-heap.here i.0 (omega (arith, i.1)) (sym c.sees.ensures ∙ c.loop-heap-test.true) in
-          via (i.2 ∙ ap (in_front x) e) (stopped _ p.1 p.2 (broken {g = λ (v : List Proc × Tokens). v} _ (c.in-err-more.ensures.tells text)));
+          via (i.2 ∙ ap (in_front x) e) (stopped _ p.1 p.2 (broken {g = λ (v : List Proc × Tokens). v} _ (c.in_err-more.ensures.tells text)));
       onward = unmade _ p.1;
     }
 
-pub returns-in-err-push : goal.returns-in-err-push
-returns-in-err-push c =
-    let p = err_from_is_err_and c.from-residual-in-err-push.result c.from-residual-in-err-push.ensures.1 in
+pub returns-in_err-push : goal.returns-in_err-push
+returns-in_err-push c =
+    let p = err_from_is_err_and c.from_residual-in_err-push.result c.from_residual-in_err-push.ensures.1 in
     record { tells = λ text. starved _ p.1 p.2; onward = unmade _ p.1 }
 
 pub loop-heap-preserved : goal.loop-heap-preserved
 loop-heap-preserved c =
-    let b = c.in-ok-more.ensures.beyond in (
+    let b = c.in_ok-more.ensures.beyond in (
       omega arith,
       λ text.
           let i = c.loop-heap.invariant.1 text in
           let n = c.loop-heap.invariant.0 in
           let x = view.view_procs text c.loop-heap.procs in
           let e = procedures_go text c.args.tokens.now c.loop-heap.here i.0 (omega (arith, i.1)) (sym c.sees.ensures ∙ c.loop-heap-test.true) in
-          let h = told (c.in-ok-more.ensures.tells text) in
+          let h = told (c.in_ok-more.ensures.tells text) in
           let y = view.view_procs text c.push.new.self in (
             i.0 - 1,
             omega (arith, i.1),
-            i.2 ∙ gather (procedures_at i.0 (from text c.args.tokens.now c.loop-heap.here)) (procedures_at (i.0 - 1) (from text c.args.tokens.now c.in-ok-more.after)) x y
-                (view.proc text c.in-ok-more.more) (e ∙ then (λ r. procedures_at (i.0 - 1) r.1 >>= (λ s. Ok (r.0 ∷ s.0, s.1))) h)
-                (ap (λ (xs : List code-proc.Proc). view.procs text xs) c.in-ok-push.ensures.items ∙ procs_push text (vec_items c.loop-heap.procs) c.in-ok-more.more),
+            i.2 ∙ gather (procedures_at i.0 (from text c.args.tokens.now c.loop-heap.here)) (procedures_at (i.0 - 1) (from text c.args.tokens.now c.in_ok-more.after)) x y
+                (view.proc text c.in_ok-more.more) (e ∙ then (λ r. procedures_at (i.0 - 1) r.1 >>= (λ s. Ok (r.0 ∷ s.0, s.1))) h)
+                (ap (λ (xs : List code-proc.Proc). view.procs text xs) c.in_ok-push.ensures.items ∙ procs_push text (vec_items c.loop-heap.procs) c.in_ok-more.more),
           ),
     )
 

@@ -21,57 +21,57 @@ returns-then-sees c =
     let l = sign_within c.args.tokens.now c.args.at tags.CloseParen refl h in
     record { tells = λ text. let e = c.new-names.ensures.items in valued _ (rw e (arguments_none text c.args.tokens.now c.args.at h)); onward = (omega arith, omega arith) }
 
-pub returns-in-err-first : goal.returns-in-err-first
-returns-in-err-first c =
-    let p = err_from_is_err_and c.from-residual.result c.from-residual.ensures.1 in
+pub returns-in_err-first : goal.returns-in_err-first
+returns-in_err-first c =
+    let p = err_from_is_err_and c.from_residual.result c.from_residual.ensures.1 in
     record {
-      tells = λ text. via (arguments_some text c.args.tokens.now c.args.at (sym c.sees.ensures ∙ c.if-sees.false)) (stopped _ p.1 p.2 (c.in-err-first.ensures.tells text));
+      tells = λ text. via (arguments_some text c.args.tokens.now c.args.at (sym c.sees.ensures ∙ c.if-sees.false)) (stopped _ p.1 p.2 (c.in_err-first.ensures.tells text));
       onward = unmade _ p.1;
     }
 
-pub returns-in-err-push : goal.returns-in-err-push
-returns-in-err-push c =
-    let p = err_from_is_err_and c.from-residual-in-err-push.result c.from-residual-in-err-push.ensures.1 in
+pub returns-in_err-push : goal.returns-in_err-push
+returns-in_err-push c =
+    let p = err_from_is_err_and c.from_residual-in_err-push.result c.from_residual-in_err-push.ensures.1 in
     record { tells = λ text. starved _ p.1 p.2; onward = unmade _ p.1 }
 
 pub loop-names-init : goal.loop-names-init
 loop-names-init c =
-    let b = c.in-ok-first.ensures.beyond in (
+    let b = c.in_ok-first.ensures.beyond in (
       omega arith,
       omega arith,
       λ text.
-          let h = told (c.in-ok-first.ensures.tells text) in
-          let e = from_length text c.args.tokens.now c.in-ok-first.next in (
-            suc (length (from text c.args.tokens.now c.in-ok-first.next)),
+          let h = told (c.in_ok-first.ensures.tells text) in
+          let e = from_length text c.args.tokens.now c.in_ok-first.next in (
+            suc (length (from text c.args.tokens.now c.in_ok-first.next)),
             omega arith,
             arguments_some text c.args.tokens.now c.args.at (sym c.sees.ensures ∙ c.if-sees.false)
                 ∙ then (λ r. more_names (suc (length r.1)) r.1 >>= (λ s. Ok (r.0 ∷ s.0, s.1))) h
-                ∙ ap (λ (xs : List code-name.Name). in_front (view.names text xs) (more_names (suc (length (from text c.args.tokens.now c.in-ok-first.next))) (from text c.args.tokens.now c.in-ok-first.next)))
-                (sym (c.in-ok-push.ensures.items ∙ ap (λ (ys : List code-name.Name). ys ++ c.in-ok-first.first ∷ []) c.new-names.ensures.items)),
+                ∙ ap (λ (xs : List code-name.Name). in_front (view.names text xs) (more_names (suc (length (from text c.args.tokens.now c.in_ok-first.next))) (from text c.args.tokens.now c.in_ok-first.next)))
+                (sym (c.in_ok-push.ensures.items ∙ ap (λ (ys : List code-name.Name). ys ++ c.in_ok-first.first ∷ []) c.new-names.ensures.items)),
           ),
     )
 
-pub returns-in-err-more : goal.returns-in-err-more
-returns-in-err-more c =
-    let p = err_from_is_err_and c.from-residual-in-err-more.result c.from-residual-in-err-more.ensures.1 in
+pub returns-in_err-more : goal.returns-in_err-more
+returns-in_err-more c =
+    let p = err_from_is_err_and c.from_residual-in_err-more.result c.from_residual-in_err-more.ensures.1 in
     record {
       tells = λ text.
           let i = c.loop-names.invariant.2 text in
           let n = c.loop-names.invariant.1 in
           let x = view.view_names text c.loop-names.names in
           let e = more_names_go text c.args.tokens.now c.loop-names.here i.0 (omega (arith, i.1)) (sym c.sees-in-loop-names.ensures ∙ c.loop-names-test.true) in
-          via (i.2 ∙ ap (in_front x) e) (stopped _ p.1 p.2 (broken {g = λ (v : List Name × Tokens). v} _ (c.in-err-more.ensures.tells text)));
+          via (i.2 ∙ ap (in_front x) e) (stopped _ p.1 p.2 (broken {g = λ (v : List Name × Tokens). v} _ (c.in_err-more.ensures.tells text)));
       onward = unmade _ p.1;
     }
 
-pub returns-in-err-push-2 : goal.returns-in-err-push-2
-returns-in-err-push-2 c =
-    let p = err_from_is_err_and c.from-residual-in-err-push-2.result c.from-residual-in-err-push-2.ensures.1 in
+pub returns-in_err-push-2 : goal.returns-in_err-push-2
+returns-in_err-push-2 c =
+    let p = err_from_is_err_and c.from_residual-in_err-push-2.result c.from_residual-in_err-push-2.ensures.1 in
     record { tells = λ text. starved _ p.1 p.2; onward = unmade _ p.1 }
 
 pub loop-names-preserved : goal.loop-names-preserved
 loop-names-preserved c =
-    let b = c.in-ok-more.ensures.beyond in
+    let b = c.in_ok-more.ensures.beyond in
     let v = c.loop-names.invariant in (
       omega (arith, v.0),
       omega arith,
@@ -80,13 +80,13 @@ loop-names-preserved c =
           let n = c.loop-names.invariant.1 in
           let x = view.view_names text c.loop-names.names in
           let e = more_names_go text c.args.tokens.now c.loop-names.here i.0 (omega (arith, i.1)) (sym c.sees-in-loop-names.ensures ∙ c.loop-names-test.true) in
-          let h = told (c.in-ok-more.ensures.tells text) in
+          let h = told (c.in_ok-more.ensures.tells text) in
           let y = view.view_names text c.push-in-loop-names.new.self in (
             i.0 - 1,
             omega (arith, i.1),
-            i.2 ∙ gather (more_names i.0 (from text c.args.tokens.now c.loop-names.here)) (more_names (i.0 - 1) (from text c.args.tokens.now c.in-ok-more.after)) x y
-                (view.name text c.in-ok-more.more) (e ∙ then (λ r. more_names (i.0 - 1) r.1 >>= (λ s. Ok (r.0 ∷ s.0, s.1))) h)
-                (ap (λ (xs : List code-name.Name). view.names text xs) c.in-ok-push-2.ensures.items ∙ names_push text (vec_items c.loop-names.names) c.in-ok-more.more),
+            i.2 ∙ gather (more_names i.0 (from text c.args.tokens.now c.loop-names.here)) (more_names (i.0 - 1) (from text c.args.tokens.now c.in_ok-more.after)) x y
+                (view.name text c.in_ok-more.more) (e ∙ then (λ r. more_names (i.0 - 1) r.1 >>= (λ s. Ok (r.0 ∷ s.0, s.1))) h)
+                (ap (λ (xs : List code-name.Name). view.names text xs) c.in_ok-push-2.ensures.items ∙ names_push text (vec_items c.loop-names.names) c.in_ok-more.more),
           ),
     )
 

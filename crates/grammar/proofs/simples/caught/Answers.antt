@@ -5,33 +5,33 @@ use Rattle.grammar.proofs.Telling.{told, via, valued, stopped, unmade}
 use Rattle.grammar.proofs.SimpleSteps.{caught_step}
 use Rattle.grammar.proofs.simples.caught.Goals as goal
 
-pub returns-in-err-inside : goal.returns-in-err-inside
-returns-in-err-inside c =
-    let p = err_from_is_err_and c.from-residual.result c.from-residual.ensures.1 in
+pub returns-in_err-inside : goal.returns-in_err-inside
+returns-in_err-inside c =
+    let p = err_from_is_err_and c.from_residual.result c.from_residual.ensures.1 in
     record {
       tells = λ text.
-          via (caught_step c.args.room (from text c.args.tokens.now c.args.at)) (stopped _ p.1 p.2 (c.in-err-inside.ensures.tells text));
+          via (caught_step c.args.room (from text c.args.tokens.now c.args.at)) (stopped _ p.1 p.2 (c.in_err-inside.ensures.tells text));
       beyond = unmade _ p.1;
     }
 
-pub returns-in-err-exception : goal.returns-in-err-exception
-returns-in-err-exception c =
-    let p = err_from_is_err_and c.from-residual-in-err-exception.result c.from-residual-in-err-exception.ensures.1 in
+pub returns-in_err-exception : goal.returns-in_err-exception
+returns-in_err-exception c =
+    let p = err_from_is_err_and c.from_residual-in_err-exception.result c.from_residual-in_err-exception.ensures.1 in
     record {
       tells = λ text.
-          let h0 = told (c.in-ok-inside.ensures.tells text) in
-          via (caught_step c.args.room (from text c.args.tokens.now c.args.at)) (rw h0 (stopped _ p.1 p.2 (c.in-err-exception.ensures.tells text)));
+          let h0 = told (c.in_ok-inside.ensures.tells text) in
+          via (caught_step c.args.room (from text c.args.tokens.now c.args.at)) (rw h0 (stopped _ p.1 p.2 (c.in_err-exception.ensures.tells text)));
       beyond = unmade _ p.1;
     }
 
-pub returns-in-err-after : goal.returns-in-err-after
-returns-in-err-after c =
-    let p = err_from_is_err_and c.from-residual-in-err-after.result c.from-residual-in-err-after.ensures.1 in
+pub returns-in_err-after : goal.returns-in_err-after
+returns-in_err-after c =
+    let p = err_from_is_err_and c.from_residual-in_err-after.result c.from_residual-in_err-after.ensures.1 in
     record {
       tells = λ text.
-          let h0 = told (c.in-ok-inside.ensures.tells text) in
-          let h1 = told (c.in-ok-exception.ensures.tells text) in
-          via (caught_step c.args.room (from text c.args.tokens.now c.args.at)) (rw (h0, h1) (stopped _ p.1 p.2 (c.in-err-after.ensures.tells text)));
+          let h0 = told (c.in_ok-inside.ensures.tells text) in
+          let h1 = told (c.in_ok-exception.ensures.tells text) in
+          via (caught_step c.args.room (from text c.args.tokens.now c.args.at)) (rw (h0, h1) (stopped _ p.1 p.2 (c.in_err-after.ensures.tells text)));
       beyond = unmade _ p.1;
     }
 
@@ -39,9 +39,9 @@ pub returns : goal.returns
 returns c =
     record {
       tells = λ text.
-          let h0 = told (c.in-ok-inside.ensures.tells text) in
-          let h1 = told (c.in-ok-exception.ensures.tells text) in
-          let h2 = told (c.in-ok-after.ensures.tells text) in
+          let h0 = told (c.in_ok-inside.ensures.tells text) in
+          let h1 = told (c.in_ok-exception.ensures.tells text) in
+          let h2 = told (c.in_ok-after.ensures.tells text) in
           via (caught_step c.args.room (from text c.args.tokens.now c.args.at)) (valued _ (rw (h0, h1, h2)));
-      beyond = let b0 = c.in-ok-inside.ensures.beyond in let b1 = c.in-ok-exception.ensures.beyond in let b2 = c.in-ok-after.ensures.beyond in (omega arith, omega arith);
+      beyond = let b0 = c.in_ok-inside.ensures.beyond in let b1 = c.in_ok-exception.ensures.beyond in let b2 = c.in_ok-after.ensures.beyond in (omega arith, omega arith);
     }

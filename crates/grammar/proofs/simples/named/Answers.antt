@@ -6,8 +6,8 @@ use Rattle.grammar.proofs.Telling.{via}
 use Rattle.grammar.proofs.SimpleSteps.{named_set, named_call, further}
 use Rattle.grammar.proofs.simples.named.Goals as goal
 
-pub overflow-add-at : goal.overflow-add-at
-overflow-add-at c = let l = sign_within c.args.tokens.now c.args.at tags.Assign refl (sym c.sees.ensures ∙ c.if-sees.true) in omega arith
+pub overflow_add-at : goal.overflow_add-at
+overflow_add-at c = let l = sign_within c.args.tokens.now c.args.at tags.Assign refl (sym c.sees.ensures ∙ c.if-sees.true) in omega arith
 
 pub returns-then-sees : goal.returns-then-sees
 returns-then-sees c =

@@ -6,22 +6,22 @@ use Rattle.grammar.proofs.SimpleSteps.{set_step}
 use Rattle.grammar.specs.Views.{name}
 use Rattle.grammar.proofs.simples.set.Goals as goal
 
-pub returns-in-err-value : goal.returns-in-err-value
-returns-in-err-value c =
-    let p = err_from_is_err_and c.from-residual.result c.from-residual.ensures.1 in
+pub returns-in_err-value : goal.returns-in_err-value
+returns-in_err-value c =
+    let p = err_from_is_err_and c.from_residual.result c.from_residual.ensures.1 in
     record {
       tells = λ text.
-          via (set_step c.args.room (name text c.args.target) (from text c.args.tokens.now c.args.at)) (stopped _ p.1 p.2 (c.in-err-value.ensures.tells text));
+          via (set_step c.args.room (name text c.args.target) (from text c.args.tokens.now c.args.at)) (stopped _ p.1 p.2 (c.in_err-value.ensures.tells text));
       beyond = unmade _ p.1;
     }
 
-pub returns-in-err-after : goal.returns-in-err-after
-returns-in-err-after c =
-    let p = err_from_is_err_and c.from-residual-in-err-after.result c.from-residual-in-err-after.ensures.1 in
+pub returns-in_err-after : goal.returns-in_err-after
+returns-in_err-after c =
+    let p = err_from_is_err_and c.from_residual-in_err-after.result c.from_residual-in_err-after.ensures.1 in
     record {
       tells = λ text.
-          let h0 = told (c.in-ok-value.ensures.tells text) in
-          via (set_step c.args.room (name text c.args.target) (from text c.args.tokens.now c.args.at)) (rw h0 (stopped _ p.1 p.2 (c.in-err-after.ensures.tells text)));
+          let h0 = told (c.in_ok-value.ensures.tells text) in
+          via (set_step c.args.room (name text c.args.target) (from text c.args.tokens.now c.args.at)) (rw h0 (stopped _ p.1 p.2 (c.in_err-after.ensures.tells text)));
       beyond = unmade _ p.1;
     }
 
@@ -29,8 +29,8 @@ pub returns : goal.returns
 returns c =
     record {
       tells = λ text.
-          let h0 = told (c.in-ok-value.ensures.tells text) in
-          let h1 = told (c.in-ok-after.ensures.tells text) in
+          let h0 = told (c.in_ok-value.ensures.tells text) in
+          let h1 = told (c.in_ok-after.ensures.tells text) in
           via (set_step c.args.room (name text c.args.target) (from text c.args.tokens.now c.args.at)) (valued _ (rw (h0, h1)));
-      beyond = let b0 = c.in-ok-value.ensures.beyond in let b1 = c.in-ok-after.ensures.beyond in (omega arith, omega arith);
+      beyond = let b0 = c.in_ok-value.ensures.beyond in let b1 = c.in_ok-after.ensures.beyond in (omega arith, omega arith);
     }

@@ -10,12 +10,12 @@ use Rattle.grammar.specs.Readers.{simple_of}
 use Rattle.grammar.proofs.Operators.{short_var}
 use Rattle.grammar.proofs.simples.short.Goals as goal
 
-pub returns-in-err-target : goal.returns-in-err-target
-returns-in-err-target c =
-    let p = err_from_is_err_and c.from-residual.result c.from-residual.ensures.1 in
+pub returns-in_err-target : goal.returns-in_err-target
+returns-in_err-target c =
+    let p = err_from_is_err_and c.from_residual.result c.from_residual.ensures.1 in
     record {
       tells = λ text.
-          via (short_step c.args.offset (simple_of c.args.word) (from text c.args.tokens.now c.args.at)) (stopped _ p.1 p.2 (c.in-err-target.ensures.tells text));
+          via (short_step c.args.offset (simple_of c.args.word) (from text c.args.tokens.now c.args.at)) (stopped _ p.1 p.2 (c.in_err-target.ensures.tells text));
       beyond = unmade _ p.1;
     }
 
@@ -23,34 +23,34 @@ pub returns-in-Next : goal.returns-in-Next
 returns-in-Next c =
     record {
       tells = λ text.
-          let h = told (c.in-ok-target.ensures.tells text) in
-          via (short_step c.args.offset (simple_of c.args.word) (from text c.args.tokens.now c.args.at)) (valued _ (rw h (ap (λ (s : Simple). Ok (One c.args.offset s, from text c.args.tokens.now c.in-ok-target.after)) (ap (λ (w : Tag). simple_of w (name text c.in-ok-target.target)) c.in-Next.is))));
-      beyond = c.in-ok-target.ensures.beyond;
+          let h = told (c.in_ok-target.ensures.tells text) in
+          via (short_step c.args.offset (simple_of c.args.word) (from text c.args.tokens.now c.args.at)) (valued _ (rw h (ap (λ (s : Simple). Ok (One c.args.offset s, from text c.args.tokens.now c.in_ok-target.after)) (ap (λ (w : Tag). simple_of w (name text c.in_ok-target.target)) c.in-Next.is))));
+      beyond = c.in_ok-target.ensures.beyond;
     }
 
 pub returns-in-Know : goal.returns-in-Know
 returns-in-Know c =
     record {
       tells = λ text.
-          let h = told (c.in-ok-target.ensures.tells text) in
-          via (short_step c.args.offset (simple_of c.args.word) (from text c.args.tokens.now c.args.at)) (valued _ (rw h (ap (λ (s : Simple). Ok (One c.args.offset s, from text c.args.tokens.now c.in-ok-target.after)) (ap (λ (w : Tag). simple_of w (name text c.in-ok-target.target)) c.in-Know.is))));
-      beyond = c.in-ok-target.ensures.beyond;
+          let h = told (c.in_ok-target.ensures.tells text) in
+          via (short_step c.args.offset (simple_of c.args.word) (from text c.args.tokens.now c.args.at)) (valued _ (rw h (ap (λ (s : Simple). Ok (One c.args.offset s, from text c.args.tokens.now c.in_ok-target.after)) (ap (λ (w : Tag). simple_of w (name text c.in_ok-target.target)) c.in-Know.is))));
+      beyond = c.in_ok-target.ensures.beyond;
     }
 
 pub returns-in-Throw : goal.returns-in-Throw
 returns-in-Throw c =
     record {
       tells = λ text.
-          let h = told (c.in-ok-target.ensures.tells text) in
-          via (short_step c.args.offset (simple_of c.args.word) (from text c.args.tokens.now c.args.at)) (valued _ (rw h (ap (λ (s : Simple). Ok (One c.args.offset s, from text c.args.tokens.now c.in-ok-target.after)) (ap (λ (w : Tag). simple_of w (name text c.in-ok-target.target)) c.in-Throw.is))));
-      beyond = c.in-ok-target.ensures.beyond;
+          let h = told (c.in_ok-target.ensures.tells text) in
+          via (short_step c.args.offset (simple_of c.args.word) (from text c.args.tokens.now c.args.at)) (valued _ (rw h (ap (λ (s : Simple). Ok (One c.args.offset s, from text c.args.tokens.now c.in_ok-target.after)) (ap (λ (w : Tag). simple_of w (name text c.in_ok-target.target)) c.in-Throw.is))));
+      beyond = c.in_ok-target.ensures.beyond;
     }
 
-pub returns-in-default : goal.returns-in-default
-returns-in-default c =
+pub returns-in_default : goal.returns-in_default
+returns-in_default c =
     record {
       tells = λ text.
-          let h = told (c.in-ok-target.ensures.tells text) in
-          via (short_step c.args.offset (simple_of c.args.word) (from text c.args.tokens.now c.args.at)) (valued _ (rw h (ap (λ (s : Simple). Ok (One c.args.offset s, from text c.args.tokens.now c.in-ok-target.after)) (short_var c.args.word (name text c.in-ok-target.target) c.in-default.not-Next c.in-default.not-Know c.in-default.not-Throw))));
-      beyond = c.in-ok-target.ensures.beyond;
+          let h = told (c.in_ok-target.ensures.tells text) in
+          via (short_step c.args.offset (simple_of c.args.word) (from text c.args.tokens.now c.args.at)) (valued _ (rw h (ap (λ (s : Simple). Ok (One c.args.offset s, from text c.args.tokens.now c.in_ok-target.after)) (short_var c.args.word (name text c.in_ok-target.target) c.in_default.not-Next c.in_default.not-Know c.in_default.not-Throw))));
+      beyond = c.in_ok-target.ensures.beyond;
     }

@@ -34,345 +34,345 @@ use Rattle.grammar.proofs.StatementSteps.{
 }
 use Rattle.grammar.proofs.statements.+block_block_statement_branches_if_statement_par_statement_statement_statements_take_statement_try_statement_while_statement.Goals as goal
 
-pub block-statement-returns-in-err-body : goal.block-statement-returns-in-err-body
-block-statement-returns-in-err-body t c =
-    let p = err_from_is_err_and c.from-residual.result c.from-residual.ensures.1 in
+pub block_statement-returns-in_err-body : goal.block_statement-returns-in_err-body
+block_statement-returns-in_err-body t c =
+    let p = err_from_is_err_and c.from_residual.result c.from_residual.ensures.1 in
     record {
       tells = λ text.
-          via (plain_step c.args.room c.args.offset (from text c.args.tokens.now c.args.at)) (stopped _ p.1 p.2 (c.in-err-body.ensures.tells text));
+          via (plain_step c.args.room c.args.offset (from text c.args.tokens.now c.args.at)) (stopped _ p.1 p.2 (c.in_err-body.ensures.tells text));
       beyond = unmade _ p.1;
     }
 
-pub block-statement-returns-in-err-all : goal.block-statement-returns-in-err-all
-block-statement-returns-in-err-all t c =
-    let p = err_from_is_err_and c.from-residual-in-err-all.result c.from-residual-in-err-all.ensures.1 in
-    record { tells = λ text. starved _ p.1 (p.2 ∙ memory (c.in-err-all.ensures text)); beyond = unmade _ p.1 }
+pub block_statement-returns-in_err-all : goal.block_statement-returns-in_err-all
+block_statement-returns-in_err-all t c =
+    let p = err_from_is_err_and c.from_residual-in_err-all.result c.from_residual-in_err-all.ensures.1 in
+    record { tells = λ text. starved _ p.1 (p.2 ∙ memory (c.in_err-all.ensures text)); beyond = unmade _ p.1 }
 
-pub block-statement-returns : goal.block-statement-returns
-block-statement-returns t c =
+pub block_statement-returns : goal.block_statement-returns
+block_statement-returns t c =
     record {
       tells = λ text.
-          let h0 = told (c.in-ok-body.ensures.tells text) in
-          let m = made_is (c.in-ok-all.ensures text) in
-          via (plain_step c.args.room c.args.offset (from text c.args.tokens.now c.args.at)) (valued _ (rw h0 (ap (λ (x : Stm). Ok (x, from text c.args.tokens.now c.in-ok-body.after)) m)));
-      beyond = let b0 = c.in-ok-body.ensures.beyond in (omega arith, omega arith);
+          let h0 = told (c.in_ok-body.ensures.tells text) in
+          let m = made_is (c.in_ok-all.ensures text) in
+          via (plain_step c.args.room c.args.offset (from text c.args.tokens.now c.args.at)) (valued _ (rw h0 (ap (λ (x : Stm). Ok (x, from text c.args.tokens.now c.in_ok-body.after)) m)));
+      beyond = let b0 = c.in_ok-body.ensures.beyond in (omega arith, omega arith);
     }
 
-pub if-statement-returns-in-err-test : goal.if-statement-returns-in-err-test
-if-statement-returns-in-err-test t c =
-    let p = err_from_is_err_and c.from-residual.result c.from-residual.ensures.1 in
+pub if_statement-returns-in_err-test : goal.if_statement-returns-in_err-test
+if_statement-returns-in_err-test t c =
+    let p = err_from_is_err_and c.from_residual.result c.from_residual.ensures.1 in
     record {
       tells = λ text.
-          via (if_step c.args.room c.args.offset (from text c.args.tokens.now c.args.at)) (stopped _ p.1 p.2 (c.in-err-test.ensures.tells text));
+          via (if_step c.args.room c.args.offset (from text c.args.tokens.now c.args.at)) (stopped _ p.1 p.2 (c.in_err-test.ensures.tells text));
       beyond = unmade _ p.1;
     }
 
-pub if-statement-returns-in-err-first : goal.if-statement-returns-in-err-first
-if-statement-returns-in-err-first t c =
-    let p = err_from_is_err_and c.from-residual-in-err-first.result c.from-residual-in-err-first.ensures.1 in
+pub if_statement-returns-in_err-first : goal.if_statement-returns-in_err-first
+if_statement-returns-in_err-first t c =
+    let p = err_from_is_err_and c.from_residual-in_err-first.result c.from_residual-in_err-first.ensures.1 in
     record {
       tells = λ text.
-          let h0 = told (c.in-ok-test.ensures.tells text) in
-          via (if_step c.args.room c.args.offset (from text c.args.tokens.now c.args.at)) (rw h0 (stopped _ p.1 p.2 (c.in-err-first.ensures.tells text)));
+          let h0 = told (c.in_ok-test.ensures.tells text) in
+          via (if_step c.args.room c.args.offset (from text c.args.tokens.now c.args.at)) (rw h0 (stopped _ p.1 p.2 (c.in_err-first.ensures.tells text)));
       beyond = unmade _ p.1;
     }
 
-pub if-statement-returns-in-err-other : goal.if-statement-returns-in-err-other
-if-statement-returns-in-err-other t c =
-    let p = err_from_is_err_and c.from-residual-in-err-other.result c.from-residual-in-err-other.ensures.1 in
+pub if_statement-returns-in_err-other : goal.if_statement-returns-in_err-other
+if_statement-returns-in_err-other t c =
+    let p = err_from_is_err_and c.from_residual-in_err-other.result c.from_residual-in_err-other.ensures.1 in
     record {
       tells = λ text.
-          let h0 = told (c.in-ok-test.ensures.tells text) in
-          let h1 = told (c.in-ok-first.ensures.tells text) in
-          via (if_step c.args.room c.args.offset (from text c.args.tokens.now c.args.at)) (rw (h0, h1) (stopped _ p.1 p.2 (c.in-err-other.ensures.tells text)));
+          let h0 = told (c.in_ok-test.ensures.tells text) in
+          let h1 = told (c.in_ok-first.ensures.tells text) in
+          via (if_step c.args.room c.args.offset (from text c.args.tokens.now c.args.at)) (rw (h0, h1) (stopped _ p.1 p.2 (c.in_err-other.ensures.tells text)));
       beyond = unmade _ p.1;
     }
 
-pub if-statement-returns-in-err-second : goal.if-statement-returns-in-err-second
-if-statement-returns-in-err-second t c =
-    let p = err_from_is_err_and c.from-residual-in-err-second.result c.from-residual-in-err-second.ensures.1 in
+pub if_statement-returns-in_err-second : goal.if_statement-returns-in_err-second
+if_statement-returns-in_err-second t c =
+    let p = err_from_is_err_and c.from_residual-in_err-second.result c.from_residual-in_err-second.ensures.1 in
     record {
       tells = λ text.
-          let h0 = told (c.in-ok-test.ensures.tells text) in
-          let h1 = told (c.in-ok-first.ensures.tells text) in
-          let h2 = told (c.in-ok-other.ensures.tells text) in
-          via (if_step c.args.room c.args.offset (from text c.args.tokens.now c.args.at)) (rw (h0, h1, h2) (stopped _ p.1 p.2 (c.in-err-second.ensures.tells text)));
+          let h0 = told (c.in_ok-test.ensures.tells text) in
+          let h1 = told (c.in_ok-first.ensures.tells text) in
+          let h2 = told (c.in_ok-other.ensures.tells text) in
+          via (if_step c.args.room c.args.offset (from text c.args.tokens.now c.args.at)) (rw (h0, h1, h2) (stopped _ p.1 p.2 (c.in_err-second.ensures.tells text)));
       beyond = unmade _ p.1;
     }
 
-pub if-statement-returns-in-err-all : goal.if-statement-returns-in-err-all
-if-statement-returns-in-err-all t c =
-    let p = err_from_is_err_and c.from-residual-in-err-all.result c.from-residual-in-err-all.ensures.1 in
-    record { tells = λ text. starved _ p.1 (p.2 ∙ memory (c.in-err-all.ensures text)); beyond = unmade _ p.1 }
+pub if_statement-returns-in_err-all : goal.if_statement-returns-in_err-all
+if_statement-returns-in_err-all t c =
+    let p = err_from_is_err_and c.from_residual-in_err-all.result c.from_residual-in_err-all.ensures.1 in
+    record { tells = λ text. starved _ p.1 (p.2 ∙ memory (c.in_err-all.ensures text)); beyond = unmade _ p.1 }
 
-pub if-statement-returns : goal.if-statement-returns
-if-statement-returns t c =
+pub if_statement-returns : goal.if_statement-returns
+if_statement-returns t c =
     record {
       tells = λ text.
-          let h0 = told (c.in-ok-test.ensures.tells text) in
-          let h1 = told (c.in-ok-first.ensures.tells text) in
-          let h2 = told (c.in-ok-other.ensures.tells text) in
-          let h3 = told (c.in-ok-second.ensures.tells text) in
-          let m = made_is (c.in-ok-all.ensures text) in
-          via (if_step c.args.room c.args.offset (from text c.args.tokens.now c.args.at)) (valued _ (rw (h0, h1, h2, h3) (ap (λ (x : Stm). Ok (x, from text c.args.tokens.now c.in-ok-second.after)) m)));
-      beyond = let b0 = c.in-ok-test.ensures.beyond in let b1 = c.in-ok-first.ensures.beyond in let b2 = c.in-ok-other.ensures.beyond in let b3 = c.in-ok-second.ensures.beyond in (omega arith, omega arith);
+          let h0 = told (c.in_ok-test.ensures.tells text) in
+          let h1 = told (c.in_ok-first.ensures.tells text) in
+          let h2 = told (c.in_ok-other.ensures.tells text) in
+          let h3 = told (c.in_ok-second.ensures.tells text) in
+          let m = made_is (c.in_ok-all.ensures text) in
+          via (if_step c.args.room c.args.offset (from text c.args.tokens.now c.args.at)) (valued _ (rw (h0, h1, h2, h3) (ap (λ (x : Stm). Ok (x, from text c.args.tokens.now c.in_ok-second.after)) m)));
+      beyond = let b0 = c.in_ok-test.ensures.beyond in let b1 = c.in_ok-first.ensures.beyond in let b2 = c.in_ok-other.ensures.beyond in let b3 = c.in_ok-second.ensures.beyond in (omega arith, omega arith);
     }
 
-pub while-statement-returns-in-err-test : goal.while-statement-returns-in-err-test
-while-statement-returns-in-err-test t c =
-    let p = err_from_is_err_and c.from-residual.result c.from-residual.ensures.1 in
+pub while_statement-returns-in_err-test : goal.while_statement-returns-in_err-test
+while_statement-returns-in_err-test t c =
+    let p = err_from_is_err_and c.from_residual.result c.from_residual.ensures.1 in
     record {
       tells = λ text.
-          via (while_step c.args.room c.args.offset (from text c.args.tokens.now c.args.at)) (stopped _ p.1 p.2 (c.in-err-test.ensures.tells text));
+          via (while_step c.args.room c.args.offset (from text c.args.tokens.now c.args.at)) (stopped _ p.1 p.2 (c.in_err-test.ensures.tells text));
       beyond = unmade _ p.1;
     }
 
-pub while-statement-returns-in-err-body : goal.while-statement-returns-in-err-body
-while-statement-returns-in-err-body t c =
-    let p = err_from_is_err_and c.from-residual-in-err-body.result c.from-residual-in-err-body.ensures.1 in
+pub while_statement-returns-in_err-body : goal.while_statement-returns-in_err-body
+while_statement-returns-in_err-body t c =
+    let p = err_from_is_err_and c.from_residual-in_err-body.result c.from_residual-in_err-body.ensures.1 in
     record {
       tells = λ text.
-          let h0 = told (c.in-ok-test.ensures.tells text) in
-          via (while_step c.args.room c.args.offset (from text c.args.tokens.now c.args.at)) (rw h0 (stopped _ p.1 p.2 (c.in-err-body.ensures.tells text)));
+          let h0 = told (c.in_ok-test.ensures.tells text) in
+          via (while_step c.args.room c.args.offset (from text c.args.tokens.now c.args.at)) (rw h0 (stopped _ p.1 p.2 (c.in_err-body.ensures.tells text)));
       beyond = unmade _ p.1;
     }
 
-pub while-statement-returns-in-err-all : goal.while-statement-returns-in-err-all
-while-statement-returns-in-err-all t c =
-    let p = err_from_is_err_and c.from-residual-in-err-all.result c.from-residual-in-err-all.ensures.1 in
-    record { tells = λ text. starved _ p.1 (p.2 ∙ memory (c.in-err-all.ensures text)); beyond = unmade _ p.1 }
+pub while_statement-returns-in_err-all : goal.while_statement-returns-in_err-all
+while_statement-returns-in_err-all t c =
+    let p = err_from_is_err_and c.from_residual-in_err-all.result c.from_residual-in_err-all.ensures.1 in
+    record { tells = λ text. starved _ p.1 (p.2 ∙ memory (c.in_err-all.ensures text)); beyond = unmade _ p.1 }
 
-pub while-statement-returns : goal.while-statement-returns
-while-statement-returns t c =
+pub while_statement-returns : goal.while_statement-returns
+while_statement-returns t c =
     record {
       tells = λ text.
-          let h0 = told (c.in-ok-test.ensures.tells text) in
-          let h1 = told (c.in-ok-body.ensures.tells text) in
-          let m = made_is (c.in-ok-all.ensures text) in
-          via (while_step c.args.room c.args.offset (from text c.args.tokens.now c.args.at)) (valued _ (rw (h0, h1) (ap (λ (x : Stm). Ok (x, from text c.args.tokens.now c.in-ok-body.after)) m)));
-      beyond = let b0 = c.in-ok-test.ensures.beyond in let b1 = c.in-ok-body.ensures.beyond in (omega arith, omega arith);
+          let h0 = told (c.in_ok-test.ensures.tells text) in
+          let h1 = told (c.in_ok-body.ensures.tells text) in
+          let m = made_is (c.in_ok-all.ensures text) in
+          via (while_step c.args.room c.args.offset (from text c.args.tokens.now c.args.at)) (valued _ (rw (h0, h1) (ap (λ (x : Stm). Ok (x, from text c.args.tokens.now c.in_ok-body.after)) m)));
+      beyond = let b0 = c.in_ok-test.ensures.beyond in let b1 = c.in_ok-body.ensures.beyond in (omega arith, omega arith);
     }
 
-pub try-statement-returns-in-err-first : goal.try-statement-returns-in-err-first
-try-statement-returns-in-err-first t c =
-    let p = err_from_is_err_and c.from-residual.result c.from-residual.ensures.1 in
+pub try_statement-returns-in_err-first : goal.try_statement-returns-in_err-first
+try_statement-returns-in_err-first t c =
+    let p = err_from_is_err_and c.from_residual.result c.from_residual.ensures.1 in
     record {
       tells = λ text.
-          via (try_step c.args.room c.args.offset (from text c.args.tokens.now c.args.at)) (stopped _ p.1 p.2 (c.in-err-first.ensures.tells text));
+          via (try_step c.args.room c.args.offset (from text c.args.tokens.now c.args.at)) (stopped _ p.1 p.2 (c.in_err-first.ensures.tells text));
       beyond = unmade _ p.1;
     }
 
-pub try-statement-returns-in-err-next : goal.try-statement-returns-in-err-next
-try-statement-returns-in-err-next t c =
-    let p = err_from_is_err_and c.from-residual-in-err-next.result c.from-residual-in-err-next.ensures.1 in
+pub try_statement-returns-in_err-next : goal.try_statement-returns-in_err-next
+try_statement-returns-in_err-next t c =
+    let p = err_from_is_err_and c.from_residual-in_err-next.result c.from_residual-in_err-next.ensures.1 in
     record {
       tells = λ text.
-          let h0 = told (c.in-ok-first.ensures.tells text) in
-          via (try_step c.args.room c.args.offset (from text c.args.tokens.now c.args.at)) (rw h0 (stopped _ p.1 p.2 (c.in-err-next.ensures.tells text)));
+          let h0 = told (c.in_ok-first.ensures.tells text) in
+          via (try_step c.args.room c.args.offset (from text c.args.tokens.now c.args.at)) (rw h0 (stopped _ p.1 p.2 (c.in_err-next.ensures.tells text)));
       beyond = unmade _ p.1;
     }
 
-pub try-statement-returns-in-err-exception : goal.try-statement-returns-in-err-exception
-try-statement-returns-in-err-exception t c =
-    let p = err_from_is_err_and c.from-residual-in-err-exception.result c.from-residual-in-err-exception.ensures.1 in
+pub try_statement-returns-in_err-exception : goal.try_statement-returns-in_err-exception
+try_statement-returns-in_err-exception t c =
+    let p = err_from_is_err_and c.from_residual-in_err-exception.result c.from_residual-in_err-exception.ensures.1 in
     record {
       tells = λ text.
-          let h0 = told (c.in-ok-first.ensures.tells text) in
-          let h1 = told (c.in-ok-next.ensures.tells text) in
-          via (try_step c.args.room c.args.offset (from text c.args.tokens.now c.args.at)) (rw (h0, h1) (stopped _ p.1 p.2 (c.in-err-exception.ensures.tells text)));
+          let h0 = told (c.in_ok-first.ensures.tells text) in
+          let h1 = told (c.in_ok-next.ensures.tells text) in
+          via (try_step c.args.room c.args.offset (from text c.args.tokens.now c.args.at)) (rw (h0, h1) (stopped _ p.1 p.2 (c.in_err-exception.ensures.tells text)));
       beyond = unmade _ p.1;
     }
 
-pub try-statement-returns-in-err-second : goal.try-statement-returns-in-err-second
-try-statement-returns-in-err-second t c =
-    let p = err_from_is_err_and c.from-residual-in-err-second.result c.from-residual-in-err-second.ensures.1 in
+pub try_statement-returns-in_err-second : goal.try_statement-returns-in_err-second
+try_statement-returns-in_err-second t c =
+    let p = err_from_is_err_and c.from_residual-in_err-second.result c.from_residual-in_err-second.ensures.1 in
     record {
       tells = λ text.
-          let h0 = told (c.in-ok-first.ensures.tells text) in
-          let h1 = told (c.in-ok-next.ensures.tells text) in
-          let h2 = told (c.in-ok-exception.ensures.tells text) in
-          via (try_step c.args.room c.args.offset (from text c.args.tokens.now c.args.at)) (rw (h0, h1, h2) (stopped _ p.1 p.2 (c.in-err-second.ensures.tells text)));
+          let h0 = told (c.in_ok-first.ensures.tells text) in
+          let h1 = told (c.in_ok-next.ensures.tells text) in
+          let h2 = told (c.in_ok-exception.ensures.tells text) in
+          via (try_step c.args.room c.args.offset (from text c.args.tokens.now c.args.at)) (rw (h0, h1, h2) (stopped _ p.1 p.2 (c.in_err-second.ensures.tells text)));
       beyond = unmade _ p.1;
     }
 
-pub try-statement-returns-in-err-all : goal.try-statement-returns-in-err-all
-try-statement-returns-in-err-all t c =
-    let p = err_from_is_err_and c.from-residual-in-err-all.result c.from-residual-in-err-all.ensures.1 in
-    record { tells = λ text. starved _ p.1 (p.2 ∙ memory (c.in-err-all.ensures text)); beyond = unmade _ p.1 }
+pub try_statement-returns-in_err-all : goal.try_statement-returns-in_err-all
+try_statement-returns-in_err-all t c =
+    let p = err_from_is_err_and c.from_residual-in_err-all.result c.from_residual-in_err-all.ensures.1 in
+    record { tells = λ text. starved _ p.1 (p.2 ∙ memory (c.in_err-all.ensures text)); beyond = unmade _ p.1 }
 
-pub try-statement-returns : goal.try-statement-returns
-try-statement-returns t c =
+pub try_statement-returns : goal.try_statement-returns
+try_statement-returns t c =
     record {
       tells = λ text.
-          let h0 = told (c.in-ok-first.ensures.tells text) in
-          let h1 = told (c.in-ok-next.ensures.tells text) in
-          let h2 = told (c.in-ok-exception.ensures.tells text) in
-          let h3 = told (c.in-ok-second.ensures.tells text) in
-          let m = made_is (c.in-ok-all.ensures text) in
-          via (try_step c.args.room c.args.offset (from text c.args.tokens.now c.args.at)) (valued _ (rw (h0, h1, h2, h3) (ap (λ (x : Stm). Ok (x, from text c.args.tokens.now c.in-ok-second.after)) m)));
-      beyond = let b0 = c.in-ok-first.ensures.beyond in let b1 = c.in-ok-next.ensures.beyond in let b2 = c.in-ok-exception.ensures.beyond in let b3 = c.in-ok-second.ensures.beyond in (omega arith, omega arith);
+          let h0 = told (c.in_ok-first.ensures.tells text) in
+          let h1 = told (c.in_ok-next.ensures.tells text) in
+          let h2 = told (c.in_ok-exception.ensures.tells text) in
+          let h3 = told (c.in_ok-second.ensures.tells text) in
+          let m = made_is (c.in_ok-all.ensures text) in
+          via (try_step c.args.room c.args.offset (from text c.args.tokens.now c.args.at)) (valued _ (rw (h0, h1, h2, h3) (ap (λ (x : Stm). Ok (x, from text c.args.tokens.now c.in_ok-second.after)) m)));
+      beyond = let b0 = c.in_ok-first.ensures.beyond in let b1 = c.in_ok-next.ensures.beyond in let b2 = c.in_ok-exception.ensures.beyond in let b3 = c.in_ok-second.ensures.beyond in (omega arith, omega arith);
     }
 
-pub take-statement-returns-in-err-port : goal.take-statement-returns-in-err-port
-take-statement-returns-in-err-port t c =
-    let p = err_from_is_err_and c.from-residual.result c.from-residual.ensures.1 in
+pub take_statement-returns-in_err-port : goal.take_statement-returns-in_err-port
+take_statement-returns-in_err-port t c =
+    let p = err_from_is_err_and c.from_residual.result c.from_residual.ensures.1 in
     record {
       tells = λ text.
-          via (take_step c.args.room c.args.offset (from text c.args.tokens.now c.args.at)) (stopped _ p.1 p.2 (c.in-err-port.ensures.tells text));
+          via (take_step c.args.room c.args.offset (from text c.args.tokens.now c.args.at)) (stopped _ p.1 p.2 (c.in_err-port.ensures.tells text));
       beyond = unmade _ p.1;
     }
 
-pub take-statement-returns-in-err-target : goal.take-statement-returns-in-err-target
-take-statement-returns-in-err-target t c =
-    let p = err_from_is_err_and c.from-residual-in-err-target.result c.from-residual-in-err-target.ensures.1 in
+pub take_statement-returns-in_err-target : goal.take_statement-returns-in_err-target
+take_statement-returns-in_err-target t c =
+    let p = err_from_is_err_and c.from_residual-in_err-target.result c.from_residual-in_err-target.ensures.1 in
     record {
       tells = λ text.
-          let h0 = told (c.in-ok-port.ensures.tells text) in
-          via (take_step c.args.room c.args.offset (from text c.args.tokens.now c.args.at)) (rw h0 (stopped _ p.1 p.2 (c.in-err-target.ensures.tells text)));
+          let h0 = told (c.in_ok-port.ensures.tells text) in
+          via (take_step c.args.room c.args.offset (from text c.args.tokens.now c.args.at)) (rw h0 (stopped _ p.1 p.2 (c.in_err-target.ensures.tells text)));
       beyond = unmade _ p.1;
     }
 
-pub take-statement-returns-in-err-other : goal.take-statement-returns-in-err-other
-take-statement-returns-in-err-other t c =
-    let p = err_from_is_err_and c.from-residual-in-err-other.result c.from-residual-in-err-other.ensures.1 in
+pub take_statement-returns-in_err-other : goal.take_statement-returns-in_err-other
+take_statement-returns-in_err-other t c =
+    let p = err_from_is_err_and c.from_residual-in_err-other.result c.from_residual-in_err-other.ensures.1 in
     record {
       tells = λ text.
-          let h0 = told (c.in-ok-port.ensures.tells text) in
-          let h1 = told (c.in-ok-target.ensures.tells text) in
-          via (take_step c.args.room c.args.offset (from text c.args.tokens.now c.args.at)) (rw (h0, h1) (stopped _ p.1 p.2 (c.in-err-other.ensures.tells text)));
+          let h0 = told (c.in_ok-port.ensures.tells text) in
+          let h1 = told (c.in_ok-target.ensures.tells text) in
+          via (take_step c.args.room c.args.offset (from text c.args.tokens.now c.args.at)) (rw (h0, h1) (stopped _ p.1 p.2 (c.in_err-other.ensures.tells text)));
       beyond = unmade _ p.1;
     }
 
-pub take-statement-returns-in-err-body : goal.take-statement-returns-in-err-body
-take-statement-returns-in-err-body t c =
-    let p = err_from_is_err_and c.from-residual-in-err-body.result c.from-residual-in-err-body.ensures.1 in
+pub take_statement-returns-in_err-body : goal.take_statement-returns-in_err-body
+take_statement-returns-in_err-body t c =
+    let p = err_from_is_err_and c.from_residual-in_err-body.result c.from_residual-in_err-body.ensures.1 in
     record {
       tells = λ text.
-          let h0 = told (c.in-ok-port.ensures.tells text) in
-          let h1 = told (c.in-ok-target.ensures.tells text) in
-          let h2 = told (c.in-ok-other.ensures.tells text) in
-          via (take_step c.args.room c.args.offset (from text c.args.tokens.now c.args.at)) (rw (h0, h1, h2) (stopped _ p.1 p.2 (c.in-err-body.ensures.tells text)));
+          let h0 = told (c.in_ok-port.ensures.tells text) in
+          let h1 = told (c.in_ok-target.ensures.tells text) in
+          let h2 = told (c.in_ok-other.ensures.tells text) in
+          via (take_step c.args.room c.args.offset (from text c.args.tokens.now c.args.at)) (rw (h0, h1, h2) (stopped _ p.1 p.2 (c.in_err-body.ensures.tells text)));
       beyond = unmade _ p.1;
     }
 
-pub take-statement-returns-in-err-all : goal.take-statement-returns-in-err-all
-take-statement-returns-in-err-all t c =
-    let p = err_from_is_err_and c.from-residual-in-err-all.result c.from-residual-in-err-all.ensures.1 in
-    record { tells = λ text. starved _ p.1 (p.2 ∙ memory (c.in-err-all.ensures text)); beyond = unmade _ p.1 }
+pub take_statement-returns-in_err-all : goal.take_statement-returns-in_err-all
+take_statement-returns-in_err-all t c =
+    let p = err_from_is_err_and c.from_residual-in_err-all.result c.from_residual-in_err-all.ensures.1 in
+    record { tells = λ text. starved _ p.1 (p.2 ∙ memory (c.in_err-all.ensures text)); beyond = unmade _ p.1 }
 
-pub take-statement-returns : goal.take-statement-returns
-take-statement-returns t c =
+pub take_statement-returns : goal.take_statement-returns
+take_statement-returns t c =
     record {
       tells = λ text.
-          let h0 = told (c.in-ok-port.ensures.tells text) in
-          let h1 = told (c.in-ok-target.ensures.tells text) in
-          let h2 = told (c.in-ok-other.ensures.tells text) in
-          let h3 = told (c.in-ok-body.ensures.tells text) in
-          let m = made_is (c.in-ok-all.ensures text) in
-          via (take_step c.args.room c.args.offset (from text c.args.tokens.now c.args.at)) (valued _ (rw (h0, h1, h2, h3) (ap (λ (x : Stm). Ok (x, from text c.args.tokens.now c.in-ok-body.after)) m)));
-      beyond = let b0 = c.in-ok-port.ensures.beyond in let b1 = c.in-ok-target.ensures.beyond in let b2 = c.in-ok-other.ensures.beyond in let b3 = c.in-ok-body.ensures.beyond in (omega arith, omega arith);
+          let h0 = told (c.in_ok-port.ensures.tells text) in
+          let h1 = told (c.in_ok-target.ensures.tells text) in
+          let h2 = told (c.in_ok-other.ensures.tells text) in
+          let h3 = told (c.in_ok-body.ensures.tells text) in
+          let m = made_is (c.in_ok-all.ensures text) in
+          via (take_step c.args.room c.args.offset (from text c.args.tokens.now c.args.at)) (valued _ (rw (h0, h1, h2, h3) (ap (λ (x : Stm). Ok (x, from text c.args.tokens.now c.in_ok-body.after)) m)));
+      beyond = let b0 = c.in_ok-port.ensures.beyond in let b1 = c.in_ok-target.ensures.beyond in let b2 = c.in_ok-other.ensures.beyond in let b3 = c.in_ok-body.ensures.beyond in (omega arith, omega arith);
     }
 
-pub par-statement-returns-in-err-first : goal.par-statement-returns-in-err-first
-par-statement-returns-in-err-first t c =
-    let p = err_from_is_err_and c.from-residual.result c.from-residual.ensures.1 in
+pub par_statement-returns-in_err-first : goal.par_statement-returns-in_err-first
+par_statement-returns-in_err-first t c =
+    let p = err_from_is_err_and c.from_residual.result c.from_residual.ensures.1 in
     record {
       tells = λ text.
-          via (par_step c.args.room c.args.offset (from text c.args.tokens.now c.args.at)) (stopped _ p.1 p.2 (c.in-err-first.ensures.tells text));
+          via (par_step c.args.room c.args.offset (from text c.args.tokens.now c.args.at)) (stopped _ p.1 p.2 (c.in_err-first.ensures.tells text));
       beyond = unmade _ p.1;
     }
 
-pub par-statement-returns-in-err-second : goal.par-statement-returns-in-err-second
-par-statement-returns-in-err-second t c =
-    let p = err_from_is_err_and c.from-residual-in-err-second.result c.from-residual-in-err-second.ensures.1 in
+pub par_statement-returns-in_err-second : goal.par_statement-returns-in_err-second
+par_statement-returns-in_err-second t c =
+    let p = err_from_is_err_and c.from_residual-in_err-second.result c.from_residual-in_err-second.ensures.1 in
     record {
       tells = λ text.
-          let h0 = told (c.in-ok-first.ensures.tells text) in
-          via (par_step c.args.room c.args.offset (from text c.args.tokens.now c.args.at)) (rw h0 (stopped _ p.1 p.2 (c.in-err-second.ensures.tells text)));
+          let h0 = told (c.in_ok-first.ensures.tells text) in
+          via (par_step c.args.room c.args.offset (from text c.args.tokens.now c.args.at)) (rw h0 (stopped _ p.1 p.2 (c.in_err-second.ensures.tells text)));
       beyond = unmade _ p.1;
     }
 
-pub par-statement-returns-in-err-others : goal.par-statement-returns-in-err-others
-par-statement-returns-in-err-others t c =
-    let p = err_from_is_err_and c.from-residual-in-err-others.result c.from-residual-in-err-others.ensures.1 in
+pub par_statement-returns-in_err-others : goal.par_statement-returns-in_err-others
+par_statement-returns-in_err-others t c =
+    let p = err_from_is_err_and c.from_residual-in_err-others.result c.from_residual-in_err-others.ensures.1 in
     record {
       tells = λ text.
-          let h0 = told (c.in-ok-first.ensures.tells text) in
-          let h1 = told (c.in-ok-second.ensures.tells text) in
-          via (par_step c.args.room c.args.offset (from text c.args.tokens.now c.args.at)) (rw (h0, h1) (stopped _ p.1 p.2 (c.in-err-others.ensures.tells text)));
+          let h0 = told (c.in_ok-first.ensures.tells text) in
+          let h1 = told (c.in_ok-second.ensures.tells text) in
+          via (par_step c.args.room c.args.offset (from text c.args.tokens.now c.args.at)) (rw (h0, h1) (stopped _ p.1 p.2 (c.in_err-others.ensures.tells text)));
       beyond = unmade _ p.1;
     }
 
-pub par-statement-returns-in-err-after : goal.par-statement-returns-in-err-after
-par-statement-returns-in-err-after t c =
-    let p = err_from_is_err_and c.from-residual-in-err-after.result c.from-residual-in-err-after.ensures.1 in
+pub par_statement-returns-in_err-after : goal.par_statement-returns-in_err-after
+par_statement-returns-in_err-after t c =
+    let p = err_from_is_err_and c.from_residual-in_err-after.result c.from_residual-in_err-after.ensures.1 in
     record {
       tells = λ text.
-          let h0 = told (c.in-ok-first.ensures.tells text) in
-          let h1 = told (c.in-ok-second.ensures.tells text) in
-          let h2 = told (c.in-ok-others.ensures.tells text) in
-          via (par_step c.args.room c.args.offset (from text c.args.tokens.now c.args.at)) (rw (h0, h1, h2) (stopped _ p.1 p.2 (c.in-err-after.ensures.tells text)));
+          let h0 = told (c.in_ok-first.ensures.tells text) in
+          let h1 = told (c.in_ok-second.ensures.tells text) in
+          let h2 = told (c.in_ok-others.ensures.tells text) in
+          via (par_step c.args.room c.args.offset (from text c.args.tokens.now c.args.at)) (rw (h0, h1, h2) (stopped _ p.1 p.2 (c.in_err-after.ensures.tells text)));
       beyond = unmade _ p.1;
     }
 
-pub par-statement-returns-in-err-tail : goal.par-statement-returns-in-err-tail
-par-statement-returns-in-err-tail t c =
-    let p = err_from_is_err_and c.from-residual-in-err-tail.result c.from-residual-in-err-tail.ensures.1 in
-    record { tells = λ text. starved _ p.1 (p.2 ∙ memory (c.in-err-tail.ensures text)); beyond = unmade _ p.1 }
+pub par_statement-returns-in_err-tail : goal.par_statement-returns-in_err-tail
+par_statement-returns-in_err-tail t c =
+    let p = err_from_is_err_and c.from_residual-in_err-tail.result c.from_residual-in_err-tail.ensures.1 in
+    record { tells = λ text. starved _ p.1 (p.2 ∙ memory (c.in_err-tail.ensures text)); beyond = unmade _ p.1 }
 
-pub par-statement-returns-in-err-whole : goal.par-statement-returns-in-err-whole
-par-statement-returns-in-err-whole t c =
-    let p = err_from_is_err_and c.from-residual-in-err-whole.result c.from-residual-in-err-whole.ensures.1 in
-    record { tells = λ text. starved _ p.1 (p.2 ∙ memory (c.in-err-whole.ensures text)); beyond = unmade _ p.1 }
+pub par_statement-returns-in_err-whole : goal.par_statement-returns-in_err-whole
+par_statement-returns-in_err-whole t c =
+    let p = err_from_is_err_and c.from_residual-in_err-whole.result c.from_residual-in_err-whole.ensures.1 in
+    record { tells = λ text. starved _ p.1 (p.2 ∙ memory (c.in_err-whole.ensures text)); beyond = unmade _ p.1 }
 
-pub par-statement-returns-in-err-all : goal.par-statement-returns-in-err-all
-par-statement-returns-in-err-all t c =
-    let p = err_from_is_err_and c.from-residual-in-err-all.result c.from-residual-in-err-all.ensures.1 in
-    record { tells = λ text. starved _ p.1 (p.2 ∙ memory (c.in-err-all.ensures text)); beyond = unmade _ p.1 }
+pub par_statement-returns-in_err-all : goal.par_statement-returns-in_err-all
+par_statement-returns-in_err-all t c =
+    let p = err_from_is_err_and c.from_residual-in_err-all.result c.from_residual-in_err-all.ensures.1 in
+    record { tells = λ text. starved _ p.1 (p.2 ∙ memory (c.in_err-all.ensures text)); beyond = unmade _ p.1 }
 
-pub par-statement-returns : goal.par-statement-returns
-par-statement-returns t c =
+pub par_statement-returns : goal.par_statement-returns
+par_statement-returns t c =
     record {
       tells = λ text.
-          let h0 = told (c.in-ok-first.ensures.tells text) in
-          let h1 = told (c.in-ok-second.ensures.tells text) in
-          let h2 = told (c.in-ok-others.ensures.tells text) in
-          let h3 = told (c.in-ok-after.ensures.tells text) in
-          let m4 = made_is (c.in-ok-tail.ensures text) in
-          let m5 = made_is (c.in-ok-whole.ensures text) in
-          let m6 = made_is (c.in-ok-all.ensures text) in
-          let e = ap (λ (x : Blocks). Par c.args.offset x) (ap (λ (x : Blocks). Also (view.block text c.in-ok-first.first) x) m4 ∙ m5) ∙ m6 in
-          via (par_step c.args.room c.args.offset (from text c.args.tokens.now c.args.at)) (valued _ (rw (h0, h1, h2, h3) (ap (λ (x : Stm). Ok (x, from text c.args.tokens.now c.in-ok-after.after)) e)));
-      beyond = let b0 = c.in-ok-first.ensures.beyond in let b1 = c.in-ok-second.ensures.beyond in let b2 = c.in-ok-others.ensures.onward in let b3 = c.in-ok-after.ensures.beyond in (omega arith, omega arith);
+          let h0 = told (c.in_ok-first.ensures.tells text) in
+          let h1 = told (c.in_ok-second.ensures.tells text) in
+          let h2 = told (c.in_ok-others.ensures.tells text) in
+          let h3 = told (c.in_ok-after.ensures.tells text) in
+          let m4 = made_is (c.in_ok-tail.ensures text) in
+          let m5 = made_is (c.in_ok-whole.ensures text) in
+          let m6 = made_is (c.in_ok-all.ensures text) in
+          let e = ap (λ (x : Blocks). Par c.args.offset x) (ap (λ (x : Blocks). Also (view.block text c.in_ok-first.first) x) m4 ∙ m5) ∙ m6 in
+          via (par_step c.args.room c.args.offset (from text c.args.tokens.now c.args.at)) (valued _ (rw (h0, h1, h2, h3) (ap (λ (x : Stm). Ok (x, from text c.args.tokens.now c.in_ok-after.after)) e)));
+      beyond = let b0 = c.in_ok-first.ensures.beyond in let b1 = c.in_ok-second.ensures.beyond in let b2 = c.in_ok-others.ensures.onward in let b3 = c.in_ok-after.ensures.beyond in (omega arith, omega arith);
     }
 
-pub block-returns-in-err-inside : goal.block-returns-in-err-inside
-block-returns-in-err-inside t c =
-    let p = err_from_is_err_and c.from-residual.result c.from-residual.ensures.1 in
+pub block-returns-in_err-inside : goal.block-returns-in_err-inside
+block-returns-in_err-inside t c =
+    let p = err_from_is_err_and c.from_residual.result c.from_residual.ensures.1 in
     record {
       tells = λ text.
-          via (block_step c.args.room (from text c.args.tokens.now c.args.at)) (stopped _ p.1 p.2 (c.in-err-inside.ensures.tells text));
+          via (block_step c.args.room (from text c.args.tokens.now c.args.at)) (stopped _ p.1 p.2 (c.in_err-inside.ensures.tells text));
       beyond = unmade _ p.1;
     }
 
-pub block-returns-in-err-body : goal.block-returns-in-err-body
-block-returns-in-err-body t c =
-    let p = err_from_is_err_and c.from-residual-in-err-body.result c.from-residual-in-err-body.ensures.1 in
+pub block-returns-in_err-body : goal.block-returns-in_err-body
+block-returns-in_err-body t c =
+    let p = err_from_is_err_and c.from_residual-in_err-body.result c.from_residual-in_err-body.ensures.1 in
     record {
       tells = λ text.
-          let h0 = told (c.in-ok-inside.ensures.tells text) in
-          via (block_step c.args.room (from text c.args.tokens.now c.args.at)) (rw h0 (stopped _ p.1 p.2 (c.in-err-body.ensures.tells text (suc (length (from text c.args.tokens.now c.in-ok-inside.inside))) (let b = c.in-ok-inside.ensures.beyond in let e = from_length text c.args.tokens.now c.in-ok-inside.inside in omega arith))));
+          let h0 = told (c.in_ok-inside.ensures.tells text) in
+          via (block_step c.args.room (from text c.args.tokens.now c.args.at)) (rw h0 (stopped _ p.1 p.2 (c.in_err-body.ensures.tells text (suc (length (from text c.args.tokens.now c.in_ok-inside.inside))) (let b = c.in_ok-inside.ensures.beyond in let e = from_length text c.args.tokens.now c.in_ok-inside.inside in omega arith))));
       beyond = unmade _ p.1;
     }
 
-pub block-returns-in-err-after : goal.block-returns-in-err-after
-block-returns-in-err-after t c =
-    let p = err_from_is_err_and c.from-residual-in-err-after.result c.from-residual-in-err-after.ensures.1 in
+pub block-returns-in_err-after : goal.block-returns-in_err-after
+block-returns-in_err-after t c =
+    let p = err_from_is_err_and c.from_residual-in_err-after.result c.from_residual-in_err-after.ensures.1 in
     record {
       tells = λ text.
-          let h0 = told (c.in-ok-inside.ensures.tells text) in
-          let h1 = told (c.in-ok-body.ensures.tells text (suc (length (from text c.args.tokens.now c.in-ok-inside.inside))) (let b = c.in-ok-inside.ensures.beyond in let e = from_length text c.args.tokens.now c.in-ok-inside.inside in omega arith)) in
-          via (block_step c.args.room (from text c.args.tokens.now c.args.at)) (rw (h0, h1) (stopped _ p.1 p.2 (c.in-err-after.ensures.tells text)));
+          let h0 = told (c.in_ok-inside.ensures.tells text) in
+          let h1 = told (c.in_ok-body.ensures.tells text (suc (length (from text c.args.tokens.now c.in_ok-inside.inside))) (let b = c.in_ok-inside.ensures.beyond in let e = from_length text c.args.tokens.now c.in_ok-inside.inside in omega arith)) in
+          via (block_step c.args.room (from text c.args.tokens.now c.args.at)) (rw (h0, h1) (stopped _ p.1 p.2 (c.in_err-after.ensures.tells text)));
       beyond = unmade _ p.1;
     }
 
@@ -380,11 +380,11 @@ pub block-returns : goal.block-returns
 block-returns t c =
     record {
       tells = λ text.
-          let h0 = told (c.in-ok-inside.ensures.tells text) in
-          let h1 = told (c.in-ok-body.ensures.tells text (suc (length (from text c.args.tokens.now c.in-ok-inside.inside))) (let b = c.in-ok-inside.ensures.beyond in let e = from_length text c.args.tokens.now c.in-ok-inside.inside in omega arith)) in
-          let h2 = told (c.in-ok-after.ensures.tells text) in
+          let h0 = told (c.in_ok-inside.ensures.tells text) in
+          let h1 = told (c.in_ok-body.ensures.tells text (suc (length (from text c.args.tokens.now c.in_ok-inside.inside))) (let b = c.in_ok-inside.ensures.beyond in let e = from_length text c.args.tokens.now c.in_ok-inside.inside in omega arith)) in
+          let h2 = told (c.in_ok-after.ensures.tells text) in
           via (block_step c.args.room (from text c.args.tokens.now c.args.at)) (valued _ (rw (h0, h1, h2)));
-      beyond = let b0 = c.in-ok-inside.ensures.beyond in let b1 = c.in-ok-body.ensures.onward in let b2 = c.in-ok-after.ensures.beyond in (omega arith, omega arith);
+      beyond = let b0 = c.in_ok-inside.ensures.beyond in let b1 = c.in_ok-body.ensures.onward in let b2 = c.in_ok-after.ensures.beyond in (omega arith, omega arith);
     }
 
 pub statements-returns-then-sees : goal.statements-returns-then-sees
@@ -394,78 +394,78 @@ statements-returns-then-sees t c =
       onward = let r = c.requires in (omega arith, r);
     }
 
-pub statements-returns-in-err-first : goal.statements-returns-in-err-first
-statements-returns-in-err-first t c =
-    let p = err_from_is_err_and c.from-residual.result c.from-residual.ensures.1 in
+pub statements-returns-in_err-first : goal.statements-returns-in_err-first
+statements-returns-in_err-first t c =
+    let p = err_from_is_err_and c.from_residual.result c.from_residual.ensures.1 in
     record {
       tells = λ text n l.
-          via (statements_more text c.args.tokens.now c.args.at c.args.room n (let r = c.requires in omega arith) (sym c.sees.ensures ∙ c.if-sees.false)) (stopped _ p.1 p.2 (c.in-err-first.ensures.tells text));
+          via (statements_more text c.args.tokens.now c.args.at c.args.room n (let r = c.requires in omega arith) (sym c.sees.ensures ∙ c.if-sees.false)) (stopped _ p.1 p.2 (c.in_err-first.ensures.tells text));
       onward = unmade _ p.1;
     }
 
-pub statements-returns-in-err-others : goal.statements-returns-in-err-others
-statements-returns-in-err-others t c =
-    let p = err_from_is_err_and c.from-residual-in-err-others.result c.from-residual-in-err-others.ensures.1 in
+pub statements-returns-in_err-others : goal.statements-returns-in_err-others
+statements-returns-in_err-others t c =
+    let p = err_from_is_err_and c.from_residual-in_err-others.result c.from_residual-in_err-others.ensures.1 in
     record {
       tells = λ text n l.
-          let h0 = told (c.in-ok-first.ensures.tells text) in
-          via (statements_more text c.args.tokens.now c.args.at c.args.room n (let r = c.requires in omega arith) (sym c.sees.ensures ∙ c.if-sees.false)) (rw h0 (stopped _ p.1 p.2 (c.in-err-others.ensures.tells text (n - 1) (let b = c.in-ok-first.ensures.beyond in omega arith))));
+          let h0 = told (c.in_ok-first.ensures.tells text) in
+          via (statements_more text c.args.tokens.now c.args.at c.args.room n (let r = c.requires in omega arith) (sym c.sees.ensures ∙ c.if-sees.false)) (rw h0 (stopped _ p.1 p.2 (c.in_err-others.ensures.tells text (n - 1) (let b = c.in_ok-first.ensures.beyond in omega arith))));
       onward = unmade _ p.1;
     }
 
-pub statements-returns-in-err-all : goal.statements-returns-in-err-all
-statements-returns-in-err-all t c =
-    let p = err_from_is_err_and c.from-residual-in-err-all.result c.from-residual-in-err-all.ensures.1 in
-    record { tells = λ text n l. starved _ p.1 (p.2 ∙ memory (c.in-err-all.ensures text)); onward = unmade _ p.1 }
+pub statements-returns-in_err-all : goal.statements-returns-in_err-all
+statements-returns-in_err-all t c =
+    let p = err_from_is_err_and c.from_residual-in_err-all.result c.from_residual-in_err-all.ensures.1 in
+    record { tells = λ text n l. starved _ p.1 (p.2 ∙ memory (c.in_err-all.ensures text)); onward = unmade _ p.1 }
 
 pub statements-returns : goal.statements-returns
 statements-returns t c =
     record {
       tells = λ text n l.
-          let h0 = told (c.in-ok-first.ensures.tells text) in
-          let h1 = told (c.in-ok-others.ensures.tells text (n - 1) (let b = c.in-ok-first.ensures.beyond in omega arith)) in
-          let m = made_is (c.in-ok-all.ensures text) in
-          via (statements_more text c.args.tokens.now c.args.at c.args.room n (let r = c.requires in omega arith) (sym c.sees.ensures ∙ c.if-sees.false)) (valued _ (rw (h0, h1) (ap (λ (x : Block). Ok (x, from text c.args.tokens.now c.in-ok-others.after)) m)));
-      onward = let b0 = c.in-ok-first.ensures.beyond in let b1 = c.in-ok-others.ensures.onward in (omega arith, omega arith);
+          let h0 = told (c.in_ok-first.ensures.tells text) in
+          let h1 = told (c.in_ok-others.ensures.tells text (n - 1) (let b = c.in_ok-first.ensures.beyond in omega arith)) in
+          let m = made_is (c.in_ok-all.ensures text) in
+          via (statements_more text c.args.tokens.now c.args.at c.args.room n (let r = c.requires in omega arith) (sym c.sees.ensures ∙ c.if-sees.false)) (valued _ (rw (h0, h1) (ap (λ (x : Block). Ok (x, from text c.args.tokens.now c.in_ok-others.after)) m)));
+      onward = let b0 = c.in_ok-first.ensures.beyond in let b1 = c.in_ok-others.ensures.onward in (omega arith, omega arith);
     }
 
 pub branches-returns-then-left-eq0 : goal.branches-returns-then-left-eq0
 branches-returns-then-left-eq0 t c =
     record { tells = λ text. valued _ (branches_none c.args.room c.args.left (from text c.args.tokens.now c.args.at) c.if-left-eq0.true); onward = (omega arith, c.requires) }
 
-pub branches-returns-in-err-first : goal.branches-returns-in-err-first
-branches-returns-in-err-first t c =
-    let p = err_from_is_err_and c.from-residual.result c.from-residual.ensures.1 in
+pub branches-returns-in_err-first : goal.branches-returns-in_err-first
+branches-returns-in_err-first t c =
+    let p = err_from_is_err_and c.from_residual.result c.from_residual.ensures.1 in
     record {
       tells = λ text.
-          via (branches_more text c.args.tokens.now c.args.at c.args.room c.args.left c.if-left-eq0.false (sym c.sees.ensures ∙ c.if-sees.true)) (stopped _ p.1 p.2 (c.in-err-first.ensures.tells text));
+          via (branches_more text c.args.tokens.now c.args.at c.args.room c.args.left c.if-left-eq0.false (sym c.sees.ensures ∙ c.if-sees.true)) (stopped _ p.1 p.2 (c.in_err-first.ensures.tells text));
       onward = unmade _ p.1;
     }
 
-pub branches-returns-in-err-others : goal.branches-returns-in-err-others
-branches-returns-in-err-others t c =
-    let p = err_from_is_err_and c.from-residual-in-err-others.result c.from-residual-in-err-others.ensures.1 in
+pub branches-returns-in_err-others : goal.branches-returns-in_err-others
+branches-returns-in_err-others t c =
+    let p = err_from_is_err_and c.from_residual-in_err-others.result c.from_residual-in_err-others.ensures.1 in
     record {
       tells = λ text.
-          let h0 = told (c.in-ok-first.ensures.tells text) in
-          via (branches_more text c.args.tokens.now c.args.at c.args.room c.args.left c.if-left-eq0.false (sym c.sees.ensures ∙ c.if-sees.true)) (rw h0 (stopped _ p.1 p.2 (c.in-err-others.ensures.tells text)));
+          let h0 = told (c.in_ok-first.ensures.tells text) in
+          via (branches_more text c.args.tokens.now c.args.at c.args.room c.args.left c.if-left-eq0.false (sym c.sees.ensures ∙ c.if-sees.true)) (rw h0 (stopped _ p.1 p.2 (c.in_err-others.ensures.tells text)));
       onward = unmade _ p.1;
     }
 
-pub branches-returns-in-err-all : goal.branches-returns-in-err-all
-branches-returns-in-err-all t c =
-    let p = err_from_is_err_and c.from-residual-in-err-all.result c.from-residual-in-err-all.ensures.1 in
-    record { tells = λ text. starved _ p.1 (p.2 ∙ memory (c.in-err-all.ensures text)); onward = unmade _ p.1 }
+pub branches-returns-in_err-all : goal.branches-returns-in_err-all
+branches-returns-in_err-all t c =
+    let p = err_from_is_err_and c.from_residual-in_err-all.result c.from_residual-in_err-all.ensures.1 in
+    record { tells = λ text. starved _ p.1 (p.2 ∙ memory (c.in_err-all.ensures text)); onward = unmade _ p.1 }
 
-pub branches-returns-in-ok-all : goal.branches-returns-in-ok-all
-branches-returns-in-ok-all t c =
+pub branches-returns-in_ok-all : goal.branches-returns-in_ok-all
+branches-returns-in_ok-all t c =
     record {
       tells = λ text.
-          let h0 = told (c.in-ok-first.ensures.tells text) in
-          let h1 = told (c.in-ok-others.ensures.tells text) in
-          let m = made_is (c.in-ok-all.ensures text) in
-          via (branches_more text c.args.tokens.now c.args.at c.args.room c.args.left c.if-left-eq0.false (sym c.sees.ensures ∙ c.if-sees.true)) (valued _ (rw (h0, h1) (ap (λ (x : Blocks). Ok (x, from text c.args.tokens.now c.in-ok-others.after)) m)));
-      onward = let b0 = c.in-ok-first.ensures.beyond in let b1 = c.in-ok-others.ensures.onward in (omega arith, omega arith);
+          let h0 = told (c.in_ok-first.ensures.tells text) in
+          let h1 = told (c.in_ok-others.ensures.tells text) in
+          let m = made_is (c.in_ok-all.ensures text) in
+          via (branches_more text c.args.tokens.now c.args.at c.args.room c.args.left c.if-left-eq0.false (sym c.sees.ensures ∙ c.if-sees.true)) (valued _ (rw (h0, h1) (ap (λ (x : Blocks). Ok (x, from text c.args.tokens.now c.in_ok-others.after)) m)));
+      onward = let b0 = c.in_ok-first.ensures.beyond in let b1 = c.in_ok-others.ensures.onward in (omega arith, omega arith);
     }
 
 pub branches-returns-else-sees : goal.branches-returns-else-sees
@@ -481,7 +481,7 @@ statement-returns-in-Name t c =
 
 pub statement-returns-in-OpenBrace : goal.statement-returns-in-OpenBrace
 statement-returns-in-OpenBrace t c =
-    record { tells = λ text. via (begins_OpenBrace text c.args.tokens.now c.args.at c.args.room c.token-word.result c.token-word.ensures c.in-OpenBrace.is) (c.block-statement.ensures.tells text); beyond = c.block-statement.ensures.beyond }
+    record { tells = λ text. via (begins_OpenBrace text c.args.tokens.now c.args.at c.args.room c.token-word.result c.token-word.ensures c.in-OpenBrace.is) (c.block_statement.ensures.tells text); beyond = c.block_statement.ensures.beyond }
 
 pub statement-returns-in-Var : goal.statement-returns-in-Var
 statement-returns-in-Var t c =
@@ -501,29 +501,29 @@ statement-returns-in-Throw t c =
 
 pub statement-returns-in-If : goal.statement-returns-in-If
 statement-returns-in-If t c =
-    record { tells = λ text. via (begins_If text c.args.tokens.now c.args.at c.args.room c.token-word.result c.token-word.ensures c.in-If.is) (c.if-statement.ensures.tells text); beyond = further c.if-statement.result c.args.tokens.now c.args.at c.if-statement.ensures.beyond }
+    record { tells = λ text. via (begins_If text c.args.tokens.now c.args.at c.args.room c.token-word.result c.token-word.ensures c.in-If.is) (c.if_statement.ensures.tells text); beyond = further c.if_statement.result c.args.tokens.now c.args.at c.if_statement.ensures.beyond }
 
 pub statement-returns-in-While : goal.statement-returns-in-While
 statement-returns-in-While t c =
-    record { tells = λ text. via (begins_While text c.args.tokens.now c.args.at c.args.room c.token-word.result c.token-word.ensures c.in-While.is) (c.while-statement.ensures.tells text); beyond = further c.while-statement.result c.args.tokens.now c.args.at c.while-statement.ensures.beyond }
+    record { tells = λ text. via (begins_While text c.args.tokens.now c.args.at c.args.room c.token-word.result c.token-word.ensures c.in-While.is) (c.while_statement.ensures.tells text); beyond = further c.while_statement.result c.args.tokens.now c.args.at c.while_statement.ensures.beyond }
 
 pub statement-returns-in-Try : goal.statement-returns-in-Try
 statement-returns-in-Try t c =
-    record { tells = λ text. via (begins_Try text c.args.tokens.now c.args.at c.args.room c.token-word.result c.token-word.ensures c.in-Try.is) (c.try-statement.ensures.tells text); beyond = further c.try-statement.result c.args.tokens.now c.args.at c.try-statement.ensures.beyond }
+    record { tells = λ text. via (begins_Try text c.args.tokens.now c.args.at c.args.room c.token-word.result c.token-word.ensures c.in-Try.is) (c.try_statement.ensures.tells text); beyond = further c.try_statement.result c.args.tokens.now c.args.at c.try_statement.ensures.beyond }
 
 pub statement-returns-in-Take : goal.statement-returns-in-Take
 statement-returns-in-Take t c =
-    record { tells = λ text. via (begins_Take text c.args.tokens.now c.args.at c.args.room c.token-word.result c.token-word.ensures c.in-Take.is) (c.take-statement.ensures.tells text); beyond = further c.take-statement.result c.args.tokens.now c.args.at c.take-statement.ensures.beyond }
+    record { tells = λ text. via (begins_Take text c.args.tokens.now c.args.at c.args.room c.token-word.result c.token-word.ensures c.in-Take.is) (c.take_statement.ensures.tells text); beyond = further c.take_statement.result c.args.tokens.now c.args.at c.take_statement.ensures.beyond }
 
 pub statement-returns-in-Par : goal.statement-returns-in-Par
 statement-returns-in-Par t c =
-    record { tells = λ text. via (begins_Par text c.args.tokens.now c.args.at c.args.room c.token-word.result c.token-word.ensures c.in-Par.is) (c.par-statement.ensures.tells text); beyond = further c.par-statement.result c.args.tokens.now c.args.at c.par-statement.ensures.beyond }
+    record { tells = λ text. via (begins_Par text c.args.tokens.now c.args.at c.args.room c.token-word.result c.token-word.ensures c.in-Par.is) (c.par_statement.ensures.tells text); beyond = further c.par_statement.result c.args.tokens.now c.args.at c.par_statement.ensures.beyond }
 
-pub statement-returns-in-default : goal.statement-returns-in-default
-statement-returns-in-default t c =
+pub statement-returns-in_default : goal.statement-returns-in_default
+statement-returns-in_default t c =
     record {
       tells = λ text.
-          refuses c.not-allowed.ensures
-          (begins_none text c.args.tokens.now c.args.at c.args.room c.token-word.result c.token-word.ensures c.in-default.not-Name c.in-default.not-OpenBrace c.in-default.not-Var c.in-default.not-Next c.in-default.not-Know c.in-default.not-Throw c.in-default.not-If c.in-default.not-While c.in-default.not-Try c.in-default.not-Take c.in-default.not-Par);
+          refuses c.not_allowed.ensures
+          (begins_none text c.args.tokens.now c.args.at c.args.room c.token-word.result c.token-word.ensures c.in_default.not-Name c.in_default.not-OpenBrace c.in_default.not-Var c.in_default.not-Next c.in_default.not-Know c.in_default.not-Throw c.in_default.not-If c.in_default.not-While c.in_default.not-Try c.in_default.not-Take c.in_default.not-Par);
       beyond = tt;
     }

@@ -14,20 +14,20 @@ decreases-statement l = 8 * (length l.tokens.now - l.at) + 6
 abbrev pub decreases-statements : goal.decreases-statements
 decreases-statements l = 8 * (length l.tokens.now - l.at) + 7
 
-abbrev pub decreases-block-statement : goal.decreases-block-statement
-decreases-block-statement l = 8 * (length l.tokens.now - l.at) + 5
+abbrev pub decreases-block_statement : goal.decreases-block_statement
+decreases-block_statement l = 8 * (length l.tokens.now - l.at) + 5
 
-abbrev pub decreases-if-statement : goal.decreases-if-statement
-decreases-if-statement l = 8 * (length l.tokens.now - l.at) + 4
+abbrev pub decreases-if_statement : goal.decreases-if_statement
+decreases-if_statement l = 8 * (length l.tokens.now - l.at) + 4
 
-abbrev pub decreases-while-statement : goal.decreases-while-statement
-decreases-while-statement l = 8 * (length l.tokens.now - l.at) + 4
+abbrev pub decreases-while_statement : goal.decreases-while_statement
+decreases-while_statement l = 8 * (length l.tokens.now - l.at) + 4
 
-abbrev pub decreases-try-statement : goal.decreases-try-statement
-decreases-try-statement l = 8 * (length l.tokens.now - l.at) + 4
+abbrev pub decreases-try_statement : goal.decreases-try_statement
+decreases-try_statement l = 8 * (length l.tokens.now - l.at) + 4
 
-abbrev pub decreases-take-statement : goal.decreases-take-statement
-decreases-take-statement l = 8 * (length l.tokens.now - l.at) + 4
+abbrev pub decreases-take_statement : goal.decreases-take_statement
+decreases-take_statement l = 8 * (length l.tokens.now - l.at) + 4
 
-abbrev pub decreases-par-statement : goal.decreases-par-statement
-decreases-par-statement l = 8 * (length l.tokens.now - l.at) + 4
+abbrev pub decreases-par_statement : goal.decreases-par_statement
+decreases-par_statement l = 8 * (length l.tokens.now - l.at) + 4
