@@ -1,5 +1,5 @@
 -- What a statement declares, in the table and in the scope.
-use Rattle.std.proofs.Common.{◌≡◌, ℕ, List, [], ◌∷◌, ◌++◌, length, take, Ok, Err, Result, sym, refl, ap, ◌∙◌, subst, append_nil}
+use Rattle.std.proofs.Common.{◌≡◌, ℕ, List, [], ◌∷◌, ◌++◌, length, take, Ok, Err, Result, sym, refl, ap, ◌∙◌, subst, append-nil}
 use Rattle.std.proofs.lemmas.List.{take_at}
 use Rattle.reader.specs.declared.fault.Error.{Error}
 use Rattle.reader.specs.declared.fault.Error.TheVariants.{Refused, OutOfMemory}
@@ -23,13 +23,13 @@ not_one (stmts.Par' at p bs) h = refl
 
 pub declared_scope : (text : List ℕ) (ns : List code-name.Name) (s : code-stmt.Stmt) → scope text (ns ++ declares s) ≡ declared (scope text ns) (stm text s)
 declared_scope text ns (stmts.One at (simples.Var n)) = stacked_push text [] ns n
-declared_scope text ns (stmts.One at (simples.Set n e)) = ap (scope text) (append_nil ns)
-declared_scope text ns (stmts.One at (simples.Call n as')) = ap (scope text) (append_nil ns)
-declared_scope text ns (stmts.One at (simples.Next n)) = ap (scope text) (append_nil ns)
-declared_scope text ns (stmts.One at (simples.Know n)) = ap (scope text) (append_nil ns)
-declared_scope text ns (stmts.One at (simples.Throw n)) = ap (scope text) (append_nil ns)
-declared_scope text ns (stmts.Two' at h p a q b) = ap (scope text) (append_nil ns)
-declared_scope text ns (stmts.Par' at p bs) = ap (scope text) (append_nil ns)
+declared_scope text ns (stmts.One at (simples.Set n e)) = ap (scope text) (append-nil ns)
+declared_scope text ns (stmts.One at (simples.Call n as')) = ap (scope text) (append-nil ns)
+declared_scope text ns (stmts.One at (simples.Next n)) = ap (scope text) (append-nil ns)
+declared_scope text ns (stmts.One at (simples.Know n)) = ap (scope text) (append-nil ns)
+declared_scope text ns (stmts.One at (simples.Throw n)) = ap (scope text) (append-nil ns)
+declared_scope text ns (stmts.Two' at h p a q b) = ap (scope text) (append-nil ns)
+declared_scope text ns (stmts.Par' at p bs) = ap (scope text) (append-nil ns)
 
 -- an answer that was met
 pub met_ok : {V A : Type 0} (P : V → A → Type 0) (v : V) (r : Answer A) → Meets P (Ok v) r → (a : A) × (r ≡ Ok a) × P v a

@@ -1,5 +1,5 @@
 -- The tests of the sites tell what the rules ask, and the walk finds the first site that is wrong.
-use Rattle.std.proofs.Common.{◌≡◌, ℕ, ◌≤◌, Bool, true, false, not, ◌||◌, eqb, leb, ◌⊎◌, List, [], ◌∷◌, length, is_some, Some, None, Ok, Err, Decides, Option, Result, sym, refl, ap, ◌∙◌, subst, inl, inr, arith, eq_eqb, eqb-true, le-leb, leb-true}
+use Rattle.std.proofs.Common.{◌≡◌, ℕ, ◌≤◌, Bool, true, false, not, ◌||◌, eqb, leb, ◌⊎◌, List, [], ◌∷◌, length, is_some, Some, None, Ok, Err, Decides, Option, Result, sym, refl, ap, ◌∙◌, subst, inl, inr, arith, eq-eqb, eqb-true, le-leb, leb-true}
 use Rattle.reader.specs.declared.fault.Fault.{Fault}
 use Rattle.reader.specs.declared.fault.Error.{Error}
 use Rattle.reader.specs.declared.fault.Error.TheVariants.{Refused, OutOfMemory}
@@ -57,7 +57,7 @@ none_tells (Some a) = (λ e. clash (sym e), λ f. absurd (f a refl))
 
 fits_tells : (k : ℕ) (o : Option Proc) → Decides (fits k o) ((p : Proc) → o ≡ Some p → length p.params ≡ k)
 fits_tells k None = (λ e p x. clash (let z : true ≡ false = cc in z), λ f. refl)
-fits_tells k (Some q) = (λ e p x. ap (λ (r : Proc). length r.params) (let z : p ≡ q = cc in z) ∙ eqb-true _ _ e, λ f. eq_eqb _ _ (f q refl))
+fits_tells k (Some q) = (λ e p x. ap (λ (r : Proc). length r.params) (let z : p ≡ q = cc in z) ∙ eqb-true _ _ e, λ f. eq-eqb _ _ (f q refl))
 
 port_tells : (o : Option ℕ) → Decides (elim o [ Some k ↦ leb k 7 | None ↦ false ]) ((k : ℕ) × (o ≡ Some k) × (k ≤ 7))
 port_tells None = (λ e. clash (sym e), λ x. clash (let z : true ≡ false = cc x.1 in z))

@@ -1,4 +1,4 @@
-use Rattle.std.proofs.Common.{◌≡◌, ℕ, Bool, eqb, length, sym, refl, ap, ◌∙◌, eq_eqb, ne_eqb}
+use Rattle.std.proofs.Common.{◌≡◌, ℕ, Bool, eqb, length, sym, refl, ap, ◌∙◌, eq-eqb, ne_eqb}
 use Rattle.reader.specs.declared.fault.Cause.TheVariants.{ArgumentCount}
 use Rattle.reader.specs.Faults.{◌>>=◌, must}
 use Rattle.grammar.specs.Views.{name, names}
@@ -26,5 +26,5 @@ returns c =
     let as' = names text c.args.args.now in
     let k = c.in-Some.count in
     let e : eqb k (length as') ≡ eqb k (length c.args.args.now) = ap (eqb k) (length_names text c.args.args.now) in
-    c.check-arguments.ensures ∙ sym (call_some v (find_proc (ended text c.args.procs.now) n.text) n as' k c.in-Some.ensures
-    ∙ ap (λ (b : Bool). must b ArgumentCount n.at >>= (λ u. all_visible v as')) (e ∙ eq_eqb _ _ c.if-count-args.false))
+    c.check_arguments.ensures ∙ sym (call_some v (find_proc (ended text c.args.procs.now) n.text) n as' k c.in-Some.ensures
+    ∙ ap (λ (b : Bool). must b ArgumentCount n.at >>= (λ u. all_visible v as')) (e ∙ eq-eqb _ _ c.if-count-args.false))

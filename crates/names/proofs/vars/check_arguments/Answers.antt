@@ -5,18 +5,18 @@ use Rattle.names.proofs.Binds.{bind_ok, bind_err}
 use Rattle.names.proofs.Stacks.{args_more, args_end}
 use Rattle.names.proofs.vars.check_arguments.Goals as goal
 
-pub returns-in-err-check-visible : goal.returns-in-err-check-visible
-returns-in-err-check-visible c =
+pub returns-in_err-check_visible : goal.returns-in_err-check_visible
+returns-in_err-check_visible c =
     let text = c.args.text.now in
     let v = scope text c.args.vars.now in
-    let p = err_from_is_err_and c.from-residual.result c.from-residual.ensures.1 in
-    p.1 ∙ ap Err p.2 ∙ sym (c.loop-n.invariant ∙ args_more text v c.args.args.now c.loop-n.n-index _ c.loop-n-test.true ∙ bind_err _ _ c.in-err-check-visible.ensures)
+    let p = err_from_is_err_and c.from_residual.result c.from_residual.ensures.1 in
+    p.1 ∙ ap Err p.2 ∙ sym (c.loop-n.invariant ∙ args_more text v c.args.args.now c.loop-n.n-index _ c.loop-n-test.true ∙ bind_err _ _ c.in_err-check_visible.ensures)
 
 pub loop-n-preserved : goal.loop-n-preserved
 loop-n-preserved c =
     let text = c.args.text.now in
     let v = scope text c.args.vars.now in
-    c.loop-n.invariant ∙ args_more text v c.args.args.now c.loop-n.n-index _ c.loop-n-test.true ∙ bind_ok _ _ c.in-ok-check-visible.ensures
+    c.loop-n.invariant ∙ args_more text v c.args.args.now c.loop-n.n-index _ c.loop-n-test.true ∙ bind_ok _ _ c.in_ok-check_visible.ensures
 
 pub returns : goal.returns
 returns c =

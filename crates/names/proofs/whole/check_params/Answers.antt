@@ -17,17 +17,17 @@ use Rattle.names.proofs.whole.check_params.Goals as goal
 abbrev none_given : code-param.Param
 none_given = record { reference = false; name = record { at = 0; len = 0 } }
 
-pub returns-in-err-check-undeclared : goal.returns-in-err-check-undeclared
-returns-in-err-check-undeclared c =
+pub returns-in_err-check_undeclared : goal.returns-in_err-check_undeclared
+returns-in_err-check_undeclared c =
     let text = c.args.text.now in
     let ns = vec_items c.loop-p.vars in
-    let f = c.in-err-check-undeclared.field-0.0 in
-    let p = err_from_is_err_and c.from-residual.result c.from-residual.ensures.1 in
+    let f = c.in_err-check_undeclared.field-0.0 in
+    let p = err_from_is_err_and c.from_residual.result c.from_residual.ensures.1 in
     let n = name text (get_or c.args.params.now c.loop-p.p-index none_given).name in
     met_by (λ (u : Unit {0}) (v : Scope). scope text ns ≡ v) {x = Err (Refused f)} {r = Err f} (sym (p.1 ∙ ap Err p.2))
     (sym (c.loop-p.invariant ∙ params_more text (scope text ns) c.args.params.now c.loop-p.p-index none_given c.loop-p-test.true
     ∙ bind_err f (λ u. names_params (n.text ∷ scope text ns) (params text (drop (c.loop-p.p-index + 1) c.args.params.now)))
-    (c.in-err-check-undeclared.ensures ∙ ap (λ (ms : List code-name.Name). undeclared (scope text ms) n) c.as-slice.ensures.value))) refl
+    (c.in_err-check_undeclared.ensures ∙ ap (λ (ms : List code-name.Name). undeclared (scope text ms) n) c.as_slice.ensures.value))) refl
 
 pub loop-p-preserved : goal.loop-p-preserved
 loop-p-preserved c =
@@ -35,10 +35,10 @@ loop-p-preserved c =
     let ns = vec_items c.loop-p.vars in
     let m = (get_or c.args.params.now c.loop-p.p-index none_given).name in
     let n = name text m in
-    let k : vec_items c.push.new.self ≡ ns ++ (m ∷ []) = pushed {was = ns} _ refl c.in-ok-push.was c.push.ensures.items in
+    let k : vec_items c.push.new.self ≡ ns ++ (m ∷ []) = pushed {was = ns} _ refl c.in_ok-push.was c.push.ensures.items in
     c.loop-p.invariant ∙ params_more text (scope text ns) c.args.params.now c.loop-p.p-index none_given c.loop-p-test.true
     ∙ bind_ok tt (λ u. names_params (n.text ∷ scope text ns) (params text (drop (c.loop-p.p-index + 1) c.args.params.now)))
-    (c.in-ok-check-undeclared.ensures ∙ ap (λ (ms : List code-name.Name). undeclared (scope text ms) n) c.as-slice.ensures.value)
+    (c.in_ok-check_undeclared.ensures ∙ ap (λ (ms : List code-name.Name). undeclared (scope text ms) n) c.as_slice.ensures.value)
     ∙ ap (λ (v : Scope). names_params v (params text (drop (c.loop-p.p-index + 1) c.args.params.now))) (sym (ap (scope text) k ∙ stacked_push text [] ns m))
 
 pub returns : goal.returns
