@@ -1,5 +1,5 @@
 -- Lists of occurrences that grow, and procedures by their index.
-use Rattle.std.proofs.Common.{◌≡◌, ℕ, ◌+◌, ◌-◌, ◌<◌, ◌≤◌, min, Bool, true, false, ◌&&◌, ◌||◌, ◌⊎◌, List, [], ◌∷◌, ◌++◌, length, get_or, take, drop, Some, None, Ok, Err, vec_items, Option, Result, sym, refl, ap, ◌∙◌, subst, inl, inr, append_assoc, append_nil, arith}
+use Rattle.std.proofs.Common.{◌≡◌, ℕ, ◌+◌, ◌-◌, ◌<◌, ◌≤◌, min, Bool, true, false, ◌&&◌, ◌||◌, ◌⊎◌, List, [], ◌∷◌, ◌++◌, length, get_or, take, drop, Some, None, Ok, Err, vec_items, Option, Result, sym, refl, ap, ◌∙◌, subst, inl, inr, append_assoc, append-nil, arith}
 use native.Mathlib.Decide.{dec_lt}
 use Rattle.std.proofs.lemmas.List.{take_all, at_drop_more, at_drop_all, get_or_default}
 use Rattle.reader.specs.declared.fault.Error.{Error}
@@ -29,7 +29,7 @@ adds_then text a b c x y (Ok u) h k = k ∙ ap (λ (us : Uses). us ++ y) h ∙ a
 adds_then text a b c x y (Err e) h k = k
 
 pub adds_none : (text : List ℕ) (a : List code-use.Use) → uses text a ≡ uses text a ++ []
-adds_none text a = sym (append_nil (uses text a))
+adds_none text a = sym (append-nil (uses text a))
 
 -- ---- written
 

@@ -1,5 +1,5 @@
 -- What a branch gets, occurrence by occurrence.
-use Rattle.std.proofs.Common.{◌≡◌, ℕ, suc, ◌+◌, ◌<◌, ◌≤◌, Bool, true, false, cond, List, [], ◌∷◌, ◌++◌, length, get_or, drop, Some, None, Option, sym, refl, ap, ◌∙◌, subst, ap₂, append_assoc, append_nil, arith, length-append}
+use Rattle.std.proofs.Common.{◌≡◌, ℕ, suc, ◌+◌, ◌<◌, ◌≤◌, Bool, true, false, cond, List, [], ◌∷◌, ◌++◌, length, get_or, drop, Some, None, Option, sym, refl, ap, ◌∙◌, subst, ap₂, append_assoc, append-nil, arith, length-append}
 use Rattle.std.proofs.lemmas.List.{at_drop_more, at_drop_all}
 use Rattle.reader.specs.Tokens.{among}
 use Rattle.grammar.specs.Trees.{Name, Block, Blocks, Last, Also}
@@ -139,7 +139,7 @@ news_step text us ws gs i d X h e f =
     ∙ sym (append_assoc (news text us) (got_new (got text (get_or gs i d) ∷ [])) more) ∙ ap (λ (zs : List New). zs ++ more) (sym f)
 
 pub news_end : (text : List ℕ) (us : List code-new.New) (gs : List code_got.Got) (i : ℕ) → length gs ≤ i → news text us ++ got_new (gots text (drop i gs)) ≡ news text us
-news_end text us gs i h = ap (λ (zs : List New). news text us ++ zs) (at_drop_all (λ (xs : List code_got.Got). got_new (gots text xs)) gs i h) ∙ append_nil (news text us)
+news_end text us gs i h = ap (λ (zs : List New). news text us ++ zs) (at_drop_all (λ (xs : List code_got.Got). got_new (gots text xs)) gs i h) ∙ append-nil (news text us)
 
 pub env_step : (text : List ℕ) (us ws : List code-binding.Binding) (gs : List code_got.Got) (i : ℕ) (d : code_got.Got) (X : Env) → i < length gs
     → X ≡ env text us ++ got_env (gots text (drop i gs)) → ws ≡ us ++ (record { name = (get_or gs i d).name; own = (get_or gs i d).own; home = (get_or gs i d).home } ∷ [])
@@ -151,7 +151,7 @@ env_step text us ws gs i d X h e f =
     ∙ sym (append_assoc (env text us) (binding text b ∷ []) more) ∙ ap (λ (zs : Env). zs ++ more) (sym (env_push text us b) ∙ ap (env text) (sym f))
 
 pub env_end : (text : List ℕ) (us : List code-binding.Binding) (gs : List code_got.Got) (i : ℕ) → length gs ≤ i → env text us ++ got_env (gots text (drop i gs)) ≡ env text us
-env_end text us gs i h = ap (λ (zs : Env). env text us ++ zs) (at_drop_all (λ (xs : List code_got.Got). got_env (gots text xs)) gs i h) ∙ append_nil (env text us)
+env_end text us gs i h = ap (λ (zs : Env). env text us ++ zs) (at_drop_all (λ (xs : List code_got.Got). got_env (gots text xs)) gs i h) ∙ append-nil (env text us)
 
 -- the occurrences of a table
 pub found_more : {A : Type 0} (F : Uses → A) (text : List ℕ) (us : List code-use.Use) (i : ℕ) (d : code-use.Use) → i < length us

@@ -1,5 +1,5 @@
 -- Arguments that are passed one by one; answers that follow answers.
-use Rattle.std.proofs.Common.{◌≡◌, ℕ, suc, ◌+◌, ◌<◌, ◌≤◌, Bool, true, false, ◌⊎◌, List, [], ◌∷◌, ◌++◌, length, get_or, drop, Ok, Err, sym, refl, ap, ◌∙◌, subst, ap₂, inl, inr, append_assoc, append_nil, arith, length-append}
+use Rattle.std.proofs.Common.{◌≡◌, ℕ, suc, ◌+◌, ◌<◌, ◌≤◌, Bool, true, false, ◌⊎◌, List, [], ◌∷◌, ◌++◌, length, get_or, drop, Ok, Err, sym, refl, ap, ◌∙◌, subst, ap₂, inl, inr, append_assoc, append-nil, arith, length-append}
 use mathlib.Core.Path.{fun_ext}
 use Rattle.std.proofs.lemmas.List.{at_drop_more, at_drop_all}
 use Rattle.reader.specs.declared.fault.Fault.{Fault}
@@ -119,7 +119,7 @@ passes_end v text ps as' i c (inr h) =
 
 pub listed_end : (text : List ℕ) (E : List code-binding.Binding) (C : List code-transfer.Transfer) (N : List code-new.New) (R : List code-name.Name)
     → listed text E C N R (record { env = []; copies = []; news = []; refs = [] }) ≡ record { env = env text E; copies = copies C; news = news text N; refs = spellings text R }
-listed_end text E C N R = same_passed _ _ _ _ _ _ _ _ (append_nil (env text E)) (append_nil (copies C)) (append_nil (news text N)) (append_nil (spellings text R))
+listed_end text E C N R = same_passed _ _ _ _ _ _ _ _ (append-nil (env text E)) (append-nil (copies C)) (append-nil (news text N)) (append-nil (spellings text R))
 
 -- one argument is passed, and the others follow
 pub pass_on : (D : Answer Passed) (v : Env) (text : List ℕ) (ps : List code-param.Param) (as' : List code-name.Name) (i : ℕ) (p : code-param.Param) (a : code-name.Name) (c d : ℕ) (b : Binding) (F G : Passed → Passed)

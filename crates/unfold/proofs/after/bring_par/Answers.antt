@@ -13,7 +13,7 @@ returns c =
     let n = count c.args.n in
     let at = c.args.at in
     subst (λ (z : Answer Count). Gives count c.bring.result z)
-    (ap (λ (k : ℕ). brings n c.count-branches.result k at) (c.len.ensures ∙ news.ok.0 ∙ sym (news_length text (vec_items news)))
-    ∙ ap (λ (k : ℕ). brings n k (length (Rattle.unfold.specs.Views.news text (vec_items news))) at) (c.count-branches.ensures text)
+    (ap (λ (k : ℕ). brings n c.count_branches.result k at) (c.len.ensures ∙ news.ok.0 ∙ sym (news_length text (vec_items news)))
+    ∙ ap (λ (k : ℕ). brings n k (length (Rattle.unfold.specs.Views.news text (vec_items news))) at) (c.count_branches.ensures text)
     ∙ brings_min n (branch_count (blocks text c.args.bs.now)) (length (Rattle.unfold.specs.Views.news text (vec_items news))) at)
     c.bring.ensures

@@ -9,15 +9,15 @@ use Rattle.unfold.specs.Views.{env, gots, news}
 use Rattle.unfold.proofs.Gains.{branch_news}
 use Rattle.unfold.proofs.gets.+add_branch_news.Goals as goal
 
-pub returns-in-ok-add-branch-news : goal.returns-in-ok-add-branch-news
-returns-in-ok-add-branch-news t c =
+pub returns-in_ok-add_branch_news-in-Also : goal.returns-in_ok-add_branch_news-in-Also
+returns-in_ok-add_branch_news-in-Also t c =
     let text = c.args.text.now in
     let f = visible_params (ended text c.args.procs.now) in
     let v = env text c.args.bindings.now in
     let a = block text c.deref.result.now in
     let bs = blocks text c.deref-in-Also.result.now in
     let old = vec_items c.args.out.now in
-    branch_news text f v a bs old (vec_items c.add-news.new.out) (vec_items c.add-branch-news.new.out) (gots text c.as-slice.result.now)
-    (ap (λ (gs : List code_got.Got). gots text gs) c.as-slice.ensures.value ∙ c.in-ok-s.ensures.0) c.in-ok-add-news.ensures c.in-ok-add-branch-news.ensures
+    branch_news text f v a bs old (vec_items c.add_news.new.out) (vec_items c.add_branch_news.new.out) (gots text c.as_slice.result.now)
+    (ap (λ (gs : List code_got.Got). gots text gs) c.as_slice.ensures.value ∙ c.in_ok-s-in-Also.ensures.0) c.in_ok-add_news-in-Also.ensures c.in_ok-add_branch_news-in-Also.ensures
     ∙ ap (λ (x : Blocks). news text old ++ all_new (all_get f v x 0))
     (ap₂ {B = Blocks} (λ (x : Block) (y : Blocks). Also x y) (ap (block text) c.deref.ensures) (ap (blocks text) c.deref-in-Also.ensures) ∙ sym (ap (blocks text) c.in-Also.is))

@@ -1,4 +1,4 @@
-use Rattle.std.proofs.Common.{◌≡◌, ◌+◌, false, get_or, drop, vec_items, sym, ap, ◌∙◌, append_nil, arith, rules}
+use Rattle.std.proofs.Common.{◌≡◌, ◌+◌, false, get_or, drop, vec_items, sym, ap, ◌∙◌, append-nil, arith, rules}
 use Rattle.unfold.specs.declared.uses.Use as code-use
 use Rattle.unfold.specs.Variables.{Uses}
 use Rattle.unfold.specs.Occurrences.{uses}
@@ -13,7 +13,7 @@ loop-u-preserved c =
     let v = env text c.args.bindings.now in
     let fs = c.args.found.now in
     let inv = c.loop-u.invariant in
-    let step = c.in-ok-get-next.ensures in
+    let step = c.in_ok-get_next.ensures in
     let d : code-use.Use = record { name = record { at = 0; len = 0 }; written = false } in (
       inv.0 ∙ found_more (λ (us : Uses). in_all text v (uses text fs) c.loop-u.s us) text fs c.loop-u.u-index d c.loop-u-test.true
           ∙ step.0 (uses text (drop (c.loop-u.u-index + 1) fs)) (get_or fs c.loop-u.u-index d).written,
@@ -27,4 +27,4 @@ returns c =
     let v = env text c.args.bindings.now in
     let fs = c.args.found.now in
     let inv = c.loop-u.invariant in
-    (sym (inv.0 ∙ all_end (λ (us : Uses). in_all text v (uses text fs) c.loop-u.s us) text fs c.loop-u.u-index c.loop-u-test.false ∙ append_nil (gots text (vec_items c.loop-u.s.got))), inv.1)
+    (sym (inv.0 ∙ all_end (λ (us : Uses). in_all text v (uses text fs) c.loop-u.s us) text fs c.loop-u.u-index c.loop-u-test.false ∙ append-nil (gots text (vec_items c.loop-u.s.got))), inv.1)

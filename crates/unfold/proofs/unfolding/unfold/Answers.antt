@@ -14,5 +14,5 @@ returns g c =
     let text = c.args.text.now in
     let main = block text c.args.tree.now.main in
     let qs = vec_items c.args.tree.now.procs in
-    gives_meets (nodes text) c.unfold-main.result (unfolded l (ended text qs) main)
-    (subst (λ (z : List code-proc.Proc). Gives (nodes text) c.unfold-main.result (unfolded l (ended text z) main)) c.as-slice.ensures.value c.unfold-main.ensures)
+    gives_meets (nodes text) c.unfold_main.result (unfolded l (ended text qs) main)
+    (subst (λ (z : List code-proc.Proc). Gives (nodes text) c.unfold_main.result (unfolded l (ended text z) main)) c.as_slice.ensures.value c.unfold_main.ensures)

@@ -9,8 +9,8 @@ use Rattle.unfold.proofs.uses.add_call.Goals as goal
 pub returns-in-Some : goal.returns-in-Some
 returns-in-Some c =
     let text = c.args.text.now in
-    call_adds text (name text c.args.n).text c.args.procs.now c.in-Some.i c.index-procs-i.result (vec_items c.args.found.now) (vec_items c.add-args.new.found)
-    (names text c.args.args.now) c.add-args.result c.as-slice.result.now c.in-Some.ensures c.index-procs-i.is c.as-slice.ensures.value c.add-args.ensures
+    call_adds text (name text c.args.n).text c.args.procs.now c.in-Some.i c.index-procs-i.result (vec_items c.args.found.now) (vec_items c.add_args.new.found)
+    (names text c.args.args.now) c.add_args.result c.as_slice.result.now c.in-Some.ensures c.index-procs-i.is c.as_slice.ensures.value c.add_args.ensures
 
 pub returns-in-None : goal.returns-in-None
 returns-in-None c =
