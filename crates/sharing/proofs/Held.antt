@@ -1,5 +1,5 @@
 -- The first block of a statement with the try that it stands in, and then the second without it.
-use Rattle.std.proofs.Common.{◌≡◌, ℕ, List, [], ◌∷◌, ◌++◌, length, take, Ok, Err, Result, sym, refl, ap, ◌∙◌, subst, append_nil}
+use Rattle.std.proofs.Common.{◌≡◌, ℕ, List, [], ◌∷◌, ◌++◌, length, take, Ok, Err, Result, sym, refl, ap, ◌∙◌, subst, append-nil}
 use Rattle.reader.specs.declared.fault.Error.{Error}
 use Rattle.reader.specs.Faults.{Answer, Meets, ◌>>=◌}
 use Rattle.grammar.specs.declared.tree.Name as code-name
@@ -14,12 +14,12 @@ use Rattle.unfold.specs.Views.{part, nodes}
 use Rattle.sharing.specs.Opening.{opens}
 
 pub opened_scope : (text : List ℕ) (ns : List code-name.Name) (h : code-part.Part) → scope text (ns ++ opens h) ≡ part_tries (scope text ns) (part text h)
-opened_scope text ns parts.Plain = ap (scope text) (append_nil ns)
-opened_scope text ns (parts.Calls cs rs) = ap (scope text) (append_nil ns)
-opened_scope text ns (parts.Tests e) = ap (scope text) (append_nil ns)
-opened_scope text ns (parts.Loops e) = ap (scope text) (append_nil ns)
+opened_scope text ns parts.Plain = ap (scope text) (append-nil ns)
+opened_scope text ns (parts.Calls cs rs) = ap (scope text) (append-nil ns)
+opened_scope text ns (parts.Tests e) = ap (scope text) (append-nil ns)
+opened_scope text ns (parts.Loops e) = ap (scope text) (append-nil ns)
 opened_scope text ns (parts.Tries n) = stacked_push text [] ns n
-opened_scope text ns (parts.Takes i c) = ap (scope text) (append_nil ns)
+opened_scope text ns (parts.Takes i c) = ap (scope text) (append-nil ns)
 
 -- what the stage says of a statement with two blocks
 abbrev pub both : List ℕ → List code-name.Name → ℕ → code-part.Part → code-nodes.Nodes → code-nodes.Nodes → Answer (Unit {0})

@@ -9,25 +9,25 @@ use Rattle.unfold.specs.Views.{node, nodes}
 use Rattle.sharing.proofs.Held.{first_is, second_is}
 use Rattle.sharing.proofs.stage.+check_branches_check_node_check_nodes.Goals as goal
 
-pub check-node-returns-in-err-check-nodes : goal.check-node-returns-in-err-check-nodes
-check-node-returns-in-err-check-nodes t c =
+pub check_node-returns-in_err-check_nodes-in-Two : goal.check_node-returns-in_err-check_nodes-in-Two
+check_node-returns-in_err-check_nodes-in-Two t c =
     let text = c.args.text.now in
     let ns = vec_items c.args.tries.now in
     let ms = vec_items c.open.new.tries in
     let b = c.in-Two.second.value in
-    let p = err_from_is_err_and c.from-residual-in-err-check-nodes.result c.from-residual-in-err-check-nodes.ensures.1 in
-    met_by (λ (u w : Unit {0}). vec_items c.check-nodes.new.tries ≡ ns) (sym (p.1 ∙ ap Err p.2))
-    (first_is text ns ms c.in-Two.at c.in-Two.part c.in-Two.first.value c.deref.result.now b c.deref.ensures c.in-ok-check-references.ensures c.in-ok-open.ensures
+    let p = err_from_is_err_and c.from_residual-in_err-check_nodes-in-Two.result c.from_residual-in_err-check_nodes-in-Two.ensures.1 in
+    met_by (λ (u w : Unit {0}). vec_items c.check_nodes.new.tries ≡ ns) (sym (p.1 ∙ ap Err p.2))
+    (first_is text ns ms c.in-Two.at c.in-Two.part c.in-Two.first.value c.deref.result.now b c.deref.ensures c.in_ok-check_references-in-Two.ensures c.in_ok-open-in-Two.ensures
     ∙ sym (ap (λ (x : code-node.Node). node_sharing (scope text ns) (node text x)) c.in-Two.is))
-    (met_stop (λ (u w : Unit {0}). vec_items c.check-nodes.new.tries ≡ ms) (λ (u w : Unit {0}). vec_items c.check-nodes.new.tries ≡ ns) c.in-err-check-nodes.field-0.0
-    (sharing (scope text ms) (nodes text c.deref.result.now)) (λ w. sharing (scope text ns) (nodes text b)) c.in-err-check-nodes.ensures)
+    (met_stop (λ (u w : Unit {0}). vec_items c.check_nodes.new.tries ≡ ms) (λ (u w : Unit {0}). vec_items c.check_nodes.new.tries ≡ ns) c.in_err-check_nodes-in-Two.field-0.0
+    (sharing (scope text ms) (nodes text c.deref.result.now)) (λ w. sharing (scope text ns) (nodes text b)) c.in_err-check_nodes-in-Two.ensures)
 
-pub check-node-returns-in-ok-check-nodes : goal.check-node-returns-in-ok-check-nodes
-check-node-returns-in-ok-check-nodes t c =
+pub check_node-returns-in_ok-check_nodes-in-Two : goal.check_node-returns-in_ok-check_nodes-in-Two
+check_node-returns-in_ok-check_nodes-in-Two t c =
     let text = c.args.text.now in
     let ns = vec_items c.args.tries.now in
-    second_is text ns (vec_items c.open.new.tries) (vec_items c.check-nodes.new.tries) (vec_items c.close.new.tries) (vec_items c.check-nodes-in-Two.new.tries)
+    second_is text ns (vec_items c.open.new.tries) (vec_items c.check_nodes.new.tries) (vec_items c.close.new.tries) (vec_items c.check_nodes-in-Two.new.tries)
     c.len-count.result c.in-Two.at c.in-Two.part c.in-Two.first.value c.deref.result.now c.in-Two.second.value c.deref-in-Two.result.now
-    (node_sharing (scope text ns) (node text c.args.u.now)) c.check-nodes-in-Two.result
-    (ap (λ (x : code-node.Node). node_sharing (scope text ns) (node text x)) c.in-Two.is) c.deref.ensures c.deref-in-Two.ensures c.in-ok-check-references.ensures c.in-ok-open.ensures
-    c.in-ok-check-nodes.ensures (c.len-count.ensures ∙ c.args.tries.now.ok.0) c.close.ensures c.check-nodes-in-Two.ensures
+    (node_sharing (scope text ns) (node text c.args.u.now)) c.check_nodes-in-Two.result
+    (ap (λ (x : code-node.Node). node_sharing (scope text ns) (node text x)) c.in-Two.is) c.deref.ensures c.deref-in-Two.ensures c.in_ok-check_references-in-Two.ensures c.in_ok-open-in-Two.ensures
+    c.in_ok-check_nodes-in-Two.ensures (c.len-count.ensures ∙ c.args.tries.now.ok.0) c.close.ensures c.check_nodes-in-Two.ensures
