@@ -119,7 +119,7 @@ module _ (C W : ℕ → Type 0) (n e : ℕ) where
 
 module _ (C W P : ℕ → Type 0) (n : ℕ) where
   abbrev pub CellIn : Cell → Type 0
-  CellIn c = (c.brought-in < n) × C c.home
+  CellIn c = (c.brought_in < n) × C c.home
 
   news_in : (p : ℕ) (ns : List New) → p < n → NamesNew C ns → Each CellIn (cells_of p ns)
   news_in p [] l h = tt
