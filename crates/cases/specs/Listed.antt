@@ -24,4 +24,4 @@ listed =
     ∷ []
 
 abbrev pub ListedHold : Type 0
-ListedHold = map (λ c. outcome c.text) listed ≡ map (λ c. c.comes-to) listed
+ListedHold = map (λ c. outcome c.text) listed ≡ map (λ c. c.comes_to) listed
