@@ -2,7 +2,7 @@
 use Rattle.std.proofs.Common.{◌≡◌, ℕ, zero, suc, ◌+◌, ◌-◌, ◌%◌, ◌<◌, ◌≤◌, Bool, true, false, cond, ◌&&◌, eqb, ltb, ◌⊎◌, List, [], ◌∷◌, ◌++◌, length, get_or, drop, sym, refl, ap, ◌∙◌, subst, inl, inr, add-zero, mod-lt, zero-add, arith}
 use mathlib.Core.Option.{Option, some, none}
 use Rattle.std.proofs.lemmas.List.{drop_more}
-use Rattle.std.proofs.lemmas.Bool.{cond_true, cond-false, ne_eqb, eq_eqb, lt-ltb, le-ltb, and_parts, eqb-true}
+use Rattle.std.proofs.lemmas.Bool.{cond-true, cond-false, ne_eqb, eq-eqb, lt-ltb, le-ltb, and_parts, eqb-true}
 use Rattle.banks.specs.Banks.{Words}
 use Rattle.numbers.specs.Kinds.{Meaning}
 use Rattle.rules.specs.Programs.{Table}
@@ -35,8 +35,8 @@ plus_one n r = ap (λ m. record { number = m; stop = r.stop; left = r.left }) (o
 module _ (k : Meaning) (t : Table) (m : ℕ) (s : State) where
   pub run_rest : (cs : List ℕ) → length (listing t s m) ≡ 0 → run k t m s cs ≡ stopped s Rest
   unfolding run
-  run_rest [] e = ap (stopped s) (cond_true _ _ _ (eq_eqb _ 0 e))
-  run_rest (c ∷ cs) e = cond_true _ _ _ (eq_eqb _ 0 e)
+  run_rest [] e = ap (stopped s) (cond-true _ _ _ (eq-eqb _ 0 e))
+  run_rest (c ∷ cs) e = cond-true _ _ _ (eq-eqb _ 0 e)
 
   pub run_full : (cs : List ℕ) → (length (listing t s m) ≡ 0 → ⊥) → 1000000000 ≤ s.total → run k t m s cs ≡ stopped s Limit
   unfolding run
@@ -50,7 +50,7 @@ module _ (k : Meaning) (t : Table) (m : ℕ) (s : State) where
   pub run_more : (c : ℕ) (cs : List ℕ) → (length (listing t s m) ≡ 0 → ⊥) → s.total < 1000000000
       → run k t m s (c ∷ cs) ≡ one_more (run k t m (made_if k t s (chosen t m s c)) cs)
   unfolding run
-  run_more c cs ne under = cond-false _ _ _ (ne_eqb _ 0 ne) ∙ cond_true _ _ _ (lt-ltb _ _ under)
+  run_more c cs ne under = cond-false _ _ _ (ne_eqb _ 0 ne) ∙ cond-true _ _ _ (lt-ltb _ _ under)
 
   pub run_next : (r : State) (cs : List ℕ) (i : ℕ) (x : Move) → i < length cs → (length (listing t s m) ≡ 0 → ⊥) → s.total < 1000000000
       → some x ≡ chosen t m s (get_or cs i 0) → r ≡ made k t s x

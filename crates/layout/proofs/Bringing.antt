@@ -1,5 +1,5 @@
 -- Cells that a statement brings, from an index on.
-use Rattle.std.proofs.Common.{◌≡◌, ℕ, ◌+◌, ◌<◌, ◌≤◌, Bool, true, false, ◌&&◌, List, [], ◌∷◌, ◌++◌, length, get_or, drop, sym, refl, ap, ◌∙◌, append_assoc, append_nil}
+use Rattle.std.proofs.Common.{◌≡◌, ℕ, ◌+◌, ◌<◌, ◌≤◌, Bool, true, false, ◌&&◌, List, [], ◌∷◌, ◌++◌, length, get_or, drop, sym, refl, ap, ◌∙◌, append_assoc, append-nil}
 use Rattle.std.proofs.lemmas.List.{at_drop_more, at_drop_all}
 use Rattle.std.proofs.lemmas.Bool.{ltb-true, and_parts}
 use Rattle.tables.specs.declared.rows.Cell as code-cell
@@ -39,4 +39,4 @@ bring_more text p was after ns i d n h e q =
 pub bring_end : (text : List ℕ) (p : ℕ) (was : List code-cell.Cell) (ns : List code-new.New) (i : ℕ) → length ns ≤ i
     → cell_rows was ≡ cell_rows was ++ cells_of p (news text (drop i ns))
 bring_end text p was ns i h =
-    sym (at_drop_all (λ (xs : List code-new.New). cell_rows was ++ cells_of p (news text xs)) ns i h ∙ append_nil (cell_rows was))
+    sym (at_drop_all (λ (xs : List code-new.New). cell_rows was ++ cells_of p (news text xs)) ns i h ∙ append-nil (cell_rows was))

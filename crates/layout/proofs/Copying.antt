@@ -1,5 +1,5 @@
 -- Copies, from an index on.
-use Rattle.std.proofs.Common.{◌≡◌, ℕ, ◌+◌, ◌<◌, ◌≤◌, Bool, true, false, ◌&&◌, List, [], ◌∷◌, ◌++◌, length, get_or, drop, sym, refl, ap, ◌∙◌, append_assoc, append_nil}
+use Rattle.std.proofs.Common.{◌≡◌, ℕ, ◌+◌, ◌<◌, ◌≤◌, Bool, true, false, ◌&&◌, List, [], ◌∷◌, ◌++◌, length, get_or, drop, sym, refl, ap, ◌∙◌, append_assoc, append-nil}
 use Rattle.std.proofs.lemmas.List.{at_drop_more, at_drop_all}
 use Rattle.std.proofs.lemmas.Bool.{ltb-true, and_parts}
 use Rattle.rules.specs.Programs.{Copies}
@@ -33,4 +33,4 @@ copy_more was after ts i d h e =
     ∙ sym (at_drop_more (λ (xs : List code-transfer.Transfer). row.copies was ++ copies xs) ts i d h)
 
 pub copy_end : (was : List Copied) (ts : List code-transfer.Transfer) (i : ℕ) → length ts ≤ i → row.copies was ≡ row.copies was ++ copies (drop i ts)
-copy_end was ts i h = sym (at_drop_all (λ (xs : List code-transfer.Transfer). row.copies was ++ copies xs) ts i h ∙ append_nil (row.copies was))
+copy_end was ts i h = sym (at_drop_all (λ (xs : List code-transfer.Transfer). row.copies was ++ copies xs) ts i h ∙ append-nil (row.copies was))

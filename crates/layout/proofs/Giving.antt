@@ -1,5 +1,5 @@
 -- What a place got, from an index on; and the rows of a list of places as read off the unfolded text.
-use Rattle.std.proofs.Common.{◌≡◌, ℕ, ◌+◌, ◌<◌, ◌≤◌, Bool, true, false, ◌&&◌, List, [], ◌∷◌, ◌++◌, length, get_or, drop, sym, refl, ap, ◌∙◌, append_assoc, append_nil}
+use Rattle.std.proofs.Common.{◌≡◌, ℕ, ◌+◌, ◌<◌, ◌≤◌, Bool, true, false, ◌&&◌, List, [], ◌∷◌, ◌++◌, length, get_or, drop, sym, refl, ap, ◌∙◌, append_assoc, append-nil}
 use Rattle.std.proofs.lemmas.List.{at_drop_more, at_drop_all}
 use Rattle.std.proofs.lemmas.Bool.{ltb-true, and_parts}
 use Rattle.tables.specs.declared.rows.Got as row
@@ -26,4 +26,4 @@ give_more text q was after gs i d h e =
 
 pub give_end : (text : List ℕ) (q : ℕ) (was : List row.Got) (gs : List code_got.Got) (i : ℕ) → length gs ≤ i
     → was ≡ was ++ given q (gots text (drop i gs))
-give_end text q was gs i h = sym (at_drop_all (λ (xs : List code_got.Got). was ++ given q (gots text xs)) gs i h ∙ append_nil was)
+give_end text q was gs i h = sym (at_drop_all (λ (xs : List code_got.Got). was ++ given q (gots text xs)) gs i h ∙ append-nil was)

@@ -1,5 +1,5 @@
 -- The copies for the variables that a branch reads, from an index on.
-use Rattle.std.proofs.Common.{◌≡◌, ℕ, ◌+◌, ◌<◌, ◌≤◌, Bool, true, false, ◌&&◌, List, [], ◌∷◌, ◌++◌, length, get_or, drop, Some, None, Option, sym, refl, ap, ◌∙◌, append_assoc, append_nil}
+use Rattle.std.proofs.Common.{◌≡◌, ℕ, ◌+◌, ◌<◌, ◌≤◌, Bool, true, false, ◌&&◌, List, [], ◌∷◌, ◌++◌, length, get_or, drop, Some, None, Option, sym, refl, ap, ◌∙◌, append_assoc, append-nil}
 use Rattle.std.proofs.lemmas.List.{at_drop_more, at_drop_all}
 use Rattle.std.proofs.lemmas.Bool.{and_parts, and_from}
 use Rattle.rules.specs.Programs.{Copies}
@@ -34,4 +34,4 @@ own_more text was after gs i d h e =
     ∙ sym (at_drop_more (λ (xs : List code_got.Got). was ++ got_copies (gots text xs)) gs i d h)
 
 pub own_end : (text : List ℕ) (was : Copies) (gs : List code_got.Got) (i : ℕ) → length gs ≤ i → was ≡ was ++ got_copies (gots text (drop i gs))
-own_end text was gs i h = sym (at_drop_all (λ (xs : List code_got.Got). was ++ got_copies (gots text xs)) gs i h ∙ append_nil was)
+own_end text was gs i h = sym (at_drop_all (λ (xs : List code_got.Got). was ++ got_copies (gots text xs)) gs i h ∙ append-nil was)

@@ -4,8 +4,8 @@ use Rattle.unfold.specs.declared.nodes.New as code-new
 use Rattle.layout.proofs.Bringing.{fit_here, bring_more, bring_end}
 use Rattle.layout.proofs.cells.push_news.Goals as goal
 
-pub overflow-cast-n : goal.overflow-cast-n
-overflow-cast-n c =
+pub overflow_cast-n : goal.overflow_cast-n
+overflow_cast-n c =
     let h = fit_here c.args.text.now c.args.news.now c.loop-n.n-index (record { home = 0; name = record { at = 0; len = 0 } }) c.loop-n-test.true c.loop-n.invariant.1 in
     omega (arith, h.0)
 
@@ -14,8 +14,8 @@ loop-n-preserved c =
     let text = c.args.text.now in
     let d : code-new.New = record { home = 0; name = record { at = 0; len = 0 } } in
     let was = vec_items c.loop-n.out in (
-      bring_more text c.args.p was (vec_items c.push.new.self) c.args.news.now c.loop-n.n-index d c.name-length-len.result c.loop-n-test.true
-          c.name-length-len.ensures (pushed {was = was} _ refl c.in-ok-push.was c.push.ensures.items)
+      bring_more text c.args.p was (vec_items c.push.new.self) c.args.news.now c.loop-n.n-index d c.name_length-len.result c.loop-n-test.true
+          c.name_length-len.ensures (pushed {was = was} _ refl c.in_ok-push.was c.push.ensures.items)
           ∙ c.loop-n.invariant.0,
       (fit_here text c.args.news.now c.loop-n.n-index d c.loop-n-test.true c.loop-n.invariant.1).1,
     )

@@ -10,11 +10,11 @@ returns t c =
     let e = c.args.e in
     let q = c.args.q in
     let n = c.args.n in
-    let cs = c.as-slice.result.now in
+    let cs = c.as_slice.result.now in
     let h : n ≡ suc (n - 1) = omega arith in
-    joined c.push-ends.result (point_rows (vec_items c.args.out.now)) (point_rows (vec_items c.push-point.new.out)) (point_rows (vec_items c.push-ends.new.out))
+    joined c.push_ends.result (point_rows (vec_items c.args.out.now)) (point_rows (vec_items c.push_point.new.out)) (point_rows (vec_items c.push_ends.new.out))
     (standing q end (e + q) cs 0 ∷ []) (ends e (q + 1) (n - 1)) (ends e q n)
     (ap (λ (m : ℕ). ends e q m) h
     ∙ ap (λ (m : ℕ). standing q end (e + q) [] 0 ∷ ends e m (n - 1)) (sym (add-one q))
-    ∙ ap (λ (l : List ℕ). standing q end (e + q) l 0 ∷ ends e (q + 1) (n - 1)) (sym (c.as-slice.ensures.value ∙ c.new-none.ensures.items)))
-    c.in-ok-push-point.ensures c.push-ends.ensures
+    ∙ ap (λ (l : List ℕ). standing q end (e + q) l 0 ∷ ends e (q + 1) (n - 1)) (sym (c.as_slice.ensures.value ∙ c.new-none.ensures.items)))
+    c.in_ok-push_point.ensures c.push_ends.ensures

@@ -5,5 +5,5 @@ use Rattle.layout.proofs.entries.+entry_node_entry.Given as goal
 abbrev pub decreases-entry : goal.decreases-entry
 decreases-entry l = blocks.the_size l.us.now
 
-abbrev pub decreases-node-entry : goal.decreases-node-entry
-decreases-node-entry l = one.the_size l.u.now
+abbrev pub decreases-node_entry : goal.decreases-node_entry
+decreases-node_entry l = one.the_size l.u.now

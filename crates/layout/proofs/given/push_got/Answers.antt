@@ -7,8 +7,8 @@ use Rattle.layout.proofs.given.push_got.Goals as goal
 abbrev no_got : code_got.Got
 no_got = record { name = record { at = 0; len = 0 }; own = 0; home = 0; from = None }
 
-pub overflow-cast-g : goal.overflow-cast-g
-overflow-cast-g c =
+pub overflow_cast-g : goal.overflow_cast-g
+overflow_cast-g c =
     let h = got_here c.args.text.now c.args.gots.now c.loop-g.g-index no_got c.loop-g-test.true c.loop-g.invariant.1 in
     omega (arith, h.0)
 
@@ -17,7 +17,7 @@ loop-g-preserved c =
     let text = c.args.text.now in
     let was = vec_items c.loop-g.out in (
       give_more text c.args.q was (vec_items c.push.new.self) c.args.gots.now c.loop-g.g-index no_got c.loop-g-test.true
-          (pushed {was = was} _ refl c.in-ok-push.was c.push.ensures.items)
+          (pushed {was = was} _ refl c.in_ok-push.was c.push.ensures.items)
           ∙ c.loop-g.invariant.0,
       (got_here text c.args.gots.now c.loop-g.g-index no_got c.loop-g-test.true c.loop-g.invariant.1).1,
     )

@@ -7,14 +7,14 @@ use Rattle.layout.proofs.pars.push_copies.Goals as goal
 abbrev no_got : code_got.Got
 no_got = record { name = record { at = 0; len = 0 }; own = 0; home = 0; from = None }
 
-pub push-copy-requires : goal.push-copy-requires
-push-copy-requires c = (own_fits c.args.text.now c.args.gots.now c.loop-g.g-index no_got c.loop-g-test.true c.loop-g.invariant.1).0
+pub push_copy-requires : goal.push_copy-requires
+push_copy-requires c = (own_fits c.args.text.now c.args.gots.now c.loop-g.g-index no_got c.loop-g-test.true c.loop-g.invariant.1).0
 
 pub loop-g-preserved : goal.loop-g-preserved
 loop-g-preserved c =
     let text = c.args.text.now in (
-      own_more text (copies (vec_items c.loop-g.out)) (copies (vec_items c.push-copy.new.out)) c.args.gots.now c.loop-g.g-index no_got c.loop-g-test.true
-          c.in-ok-push-copy.ensures
+      own_more text (copies (vec_items c.loop-g.out)) (copies (vec_items c.push_copy.new.out)) c.args.gots.now c.loop-g.g-index no_got c.loop-g-test.true
+          c.in_ok-push_copy.ensures
           ∙ c.loop-g.invariant.0,
       (own_fits text c.args.gots.now c.loop-g.g-index no_got c.loop-g-test.true c.loop-g.invariant.1).1,
     )

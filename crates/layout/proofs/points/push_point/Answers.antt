@@ -8,7 +8,7 @@ use Rattle.layout.proofs.points.push_point.Goals as goal
 pub returns : goal.returns
 returns c =
     let was = vec_items c.args.out.now in
-    let row : code-point.Point = record { stmt = c.args.stmt; after = c.args.after; place = c.args.place; catches = c.in-ok-copy.copy; offset = c.args.offset } in
-    ap point_rows c.in-ok-push.ensures.items
+    let row : code-point.Point = record { stmt = c.args.stmt; after = c.args.after; place = c.args.place; catches = c.in_ok-copy.copy; offset = c.args.offset } in
+    ap point_rows c.in_ok-push.ensures.items
     ∙ points_append was (row ∷ [])
-    ∙ ap (λ (cs : List ℕ). point_rows was ++ (standing c.args.place (stm c.args.place c.args.stmt) c.args.after cs c.args.offset ∷ [])) c.in-ok-copy.ensures
+    ∙ ap (λ (cs : List ℕ). point_rows was ++ (standing c.args.place (stm c.args.place c.args.stmt) c.args.after cs c.args.offset ∷ [])) c.in_ok-copy.ensures

@@ -41,8 +41,8 @@ returns-then-self-ge1000000000 g c =
     let len : c.permitted-n.result ≡ length (listing t (state_of words y) m) = same_length words x y i.1 _ c.permitted-n.ensures in
     stops k words x y c.args.choices.now c.loop-choice.granted Limit (drop c.loop-choice.choice-index c.args.choices.now) i.0 (run_full k t m (state_of words y) _ (λ e. c.if-n-eq0.false (len ∙ e)) (omega arith)) i.1 i.2
 
-pub returns-in-default : goal.returns-in-default
-returns-in-default g c =
+pub returns-in_default : goal.returns-in_default
+returns-in_default g c =
     let y = c.loop-choice.self in
     let xs = listing (table y.tables) (portless y.state) (cells_of y.tables) in
     let n = c.permitted-n.result in
@@ -50,7 +50,7 @@ returns-in-default g c =
     let pos : 0 < n = omega arith in
     let lt : ch % n < n = mod-lt ch {m = n} pos in
     let len = c.permitted-n.ensures in
-    absurd (nth_within xs (ch % n) (omega (arith, lt, len)) (sym c.in-default.ensures))
+    absurd (nth_within xs (ch % n) (omega (arith, lt, len)) (sym c.in_default.ensures))
 
 pub grant-requires : goal.grant-requires
 grant-requires g c =
@@ -85,7 +85,7 @@ returns g c =
     let t = table x.tables in
     let m = cells_of x.tables in
     let i = c.loop-choice.invariant in
-    let e = c.last-stop.result in
+    let e = c.last_stop.result in
     let none : drop c.loop-choice.choice-index c.args.choices.now ≡ [] = drop_all c.loop-choice.choice-index c.args.choices.now (omega arith) in
     stops k words x y c.args.choices.now c.loop-choice.granted e (drop c.loop-choice.choice-index c.args.choices.now) i.0
-    (rw none (run_end k t m (state_of words y) e (same_last words x y i.1 e c.last-stop.ensures))) i.1 i.2
+    (rw none (run_end k t m (state_of words y) e (same_last words x y i.1 e c.last_stop.ensures))) i.1 i.2
