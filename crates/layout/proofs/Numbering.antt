@@ -4,7 +4,7 @@ use Rattle.std.proofs.lemmas.List.{length-append}
 use Rattle.tables.specs.declared.rows.Got as row
 use Rattle.unfold.specs.Unfolded.{Node, one, throws, two, par, Nodes, nil, seq, Branches, last, also}
 use Rattle.program.specs.Sizes.{node_size, size, node_places, how_many, branch_places}
-use Rattle.program.specs.Layout.{Place, node_placing, placing, branch_placing}
+use Rattle.program.specs.Layout.{Place, node_placing, placing, branch_placing, laid_out}
 use Rattle.layout.specs.Given.{given, given_from, node_given, nodes_given, branches_given}
 
 mutual
@@ -64,3 +64,7 @@ mutual
       ∙ ap (λ (l : List row.Got). l ++ given_from (suc q + length as') bs') (given_is e q us (suc q) o)
       ∙ ap (λ (m : ℕ). nodes_given us (suc q) ++ given_from (suc q + m) bs') (numbered e q us (suc q) o)
       ∙ ap (λ (l : List row.Got). nodes_given us (suc q) ++ l) (branch_given_is e p x bs (suc q + how_many us) (o + size us)))
+
+-- of a whole unfolded text, whose main block got nothing
+pub all_given : (us : Nodes) (was end : List row.Got) → was ≡ [] → end ≡ was ++ nodes_given us 1 → end ≡ given_from 0 (laid_out us).places
+all_given us was end e h = h ∙ ap (λ (l : List row.Got). l ++ nodes_given us 1) e ∙ sym (given_is (size us) 0 us 1 0)

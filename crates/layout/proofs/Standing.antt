@@ -9,7 +9,7 @@ use Rattle.unfold.specs.declared.nodes.Branches as code-branches
 use Rattle.unfold.specs.Unfolded.{Part, plain, calls, tests, loops, tries, takes, Node, two, par, Nodes, Branches}
 use Rattle.unfold.specs.Views.{node, nodes, branches}
 use Rattle.program.specs.Sizes.{node_size, size, node_places, how_many, entry}
-use Rattle.program.specs.Layout.{Point, Open, part_stm, part_after, part_catches, part_opens, branch_list, branch_copies, node_points, points, branch_points}
+use Rattle.program.specs.Layout.{Point, Open, part_stm, part_after, part_catches, part_opens, branch_list, branch_copies, node_points, points, branch_points, ends, laid_out}
 use Rattle.layout.specs.Rows.{point, point_rows, standing}
 
 pub points_append : (xs ys : List code-point.Point) → point_rows (xs ++ ys) ≡ point_rows xs ++ point_rows ys
@@ -52,3 +52,11 @@ pub par_points : (text : List ℕ) (e p at q o k : ℕ) (cs : List ℕ) (rs : Li
     → b₁ ≡ b → b₂ ≡ b → st ≡ opens (branch_list (branches text b₁) q) (branch_copies (branches text b₁))
     → node_points e p cs rs (par at [] (branches text b)) q o k ≡ standing p st k cs at ∷ branch_points e rs (branches text b₂) q (o + 1)
 par_points text e p at q o k cs rs b b₁ b₂ st c d f = cc (add-one o)
+
+-- the points of a whole unfolded text: those of the statements, then the ends
+pub all_points : (us : Nodes) (e n : ℕ) (cs : List ℕ) (rs : List Open) (was mid end : List Point)
+    → e ≡ size us → n ≡ how_many us → cs ≡ [] → rs ≡ [] → was ≡ [] → mid ≡ was ++ points e 0 cs rs us 1 0 e → end ≡ mid ++ ends e 0 (n + 1)
+    → end ≡ (laid_out us).points
+all_points us e n cs rs was mid end a b c d f g h =
+    let i : points e 0 cs rs us 1 0 e ++ ends e 0 (n + 1) ≡ points (size us) 0 [] [] us 1 0 (size us) ++ ends (size us) 0 (suc (how_many us)) = cc (add-one n) in
+    h ∙ ap (λ (l : List Point). l ++ ends e 0 (n + 1)) (g ∙ ap (λ (l : List Point). l ++ points e 0 cs rs us 1 0 e) f) ∙ i

@@ -2,3 +2,4 @@ pub mod Fits
 pub mod Given
 pub mod Opens
 pub mod Rows
+pub mod Shown

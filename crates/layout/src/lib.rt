@@ -1,4 +1,5 @@
 // The last step of clearing: the unfolded text is laid out as the tables that a board reads.
+#![tactic(auto)]
 
 mod cells;
 mod counts;
@@ -9,7 +10,8 @@ mod given;
 mod pars;
 mod places;
 mod points;
-mod sizes;
+pub mod sizes;
 mod spelling;
 mod stmts;
 mod tries;
+pub mod whole;

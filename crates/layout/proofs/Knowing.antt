@@ -1,6 +1,6 @@
 -- What a place got is found in the rows of what the places got, numbered from the first.
 use Rattle.std.proofs.Common.{◌≡◌, ℕ, zero, suc, ◌+◌, ◌<◌, Bool, true, false, ◌&&◌, ◌||◌, eqb, List, [], ◌∷◌, ◌++◌, length, get_or, sym, refl, ap, ◌∙◌, inl, inr, zero-add, arith}
-use Rattle.std.proofs.lemmas.Bool.{eq_eqb, ne_eqb, cases_eq}
+use Rattle.std.proofs.lemmas.Bool.{eq-eqb, ne_eqb, cases_eq}
 use Rattle.rules.specs.Programs.{elem}
 use Rattle.rules.specs.Moves.{any_below}
 use Rattle.tables.specs.declared.rows.Got as row
@@ -39,7 +39,7 @@ got_append (x ∷ xs) ys q h =
 eqb_swap : (m n : ℕ) → eqb m n ≡ eqb n m
 eqb_swap m n =
     elim (cases_eq m n) [
-      | inl e ↦ eq_eqb m n e ∙ sym (eq_eqb n m (sym e))
+      | inl e ↦ eq-eqb m n e ∙ sym (eq-eqb n m (sym e))
       | inr ne ↦ ne_eqb m n ne ∙ sym (ne_eqb n m (λ e. ne (sym e)))
     ]
 
@@ -76,7 +76,7 @@ from_got r (p ∷ ps) zero h =
     got_append (given r p.got) (given_from (suc r) ps) (r + 0) h
     ∙ ap (λ (b : Bool). has_got (given r p.got) (r + 0) h || b) (before (suc r) ps (r + 0) h (omega arith))
     ∙ ap (λ (b : Bool). b || false) (given_got r p.got (r + 0) h)
-    ∙ ap (λ (b : Bool). (b && here) || false) (eq_eqb r (r + 0) (omega arith))
+    ∙ ap (λ (b : Bool). (b && here) || false) (eq-eqb r (r + 0) (omega arith))
     ∙ or_none here
   where
     or_none : (b : Bool) → (b || false) ≡ b

@@ -1,6 +1,6 @@
 // Filling a program from a text.
 ghost use Rattle.std.specs.Prelude.{◌≡◌, IfOk};
-ghost use Rattle.program.specs.Clearing.{fresh as empty-main};
+ghost use Rattle.program.specs.Clearing.{fresh as empty_main};
 ghost use Rattle.clearing.specs.Cleared.{Holds, Cleared};
 
 use crate::blank::{blank_tables, reset_tables};
@@ -13,7 +13,7 @@ use std::alloc::{AllocError, Global};
 impl<K: NumberKind + Drop> Program<K> {
     // The program `main { }`.
     pub fn fresh(heap: Global, kind: K) -> Result<Program<K>, AllocError>
-        ensures { IfOk result (λ p. Holds p empty-main × (p.kind ≡ kind)) }
+        ensures { IfOk result (λ p. Holds p empty_main × (p.kind ≡ kind)) }
     {
         let tables = blank_tables(heap)?;
         Ok(Program {

@@ -13,6 +13,6 @@ returns c =
     let ps = c.args.tables.now.places in
     blank_shows _
     c.clear.ensures.items
-    (only (vec_items ps) (vec_items c.truncate.new.self) c.main-block.result (omega (arith, ps.ok.0, c.args.tables.now.sized.0)) c.truncate.ensures.items c.main-block.ensures)
+    (only (vec_items ps) (vec_items c.truncate.new.self) c.main_block.result (omega (arith, ps.ok.0, c.args.tables.now.sized.0)) c.truncate.ensures.items c.main_block.ensures)
     c.clear-2.ensures.items
     c.clear-3.ensures.items

@@ -1,6 +1,6 @@
 // The tables of `main { }`.
 ghost use Rattle.std.specs.Prelude.{◌≡◌, IfOk};
-ghost use Rattle.program.specs.Clearing.{fresh as empty-main};
+ghost use Rattle.program.specs.Clearing.{fresh as empty_main};
 ghost use Rattle.layout.specs.Shown.{Shows};
 ghost use Rattle.tables.specs.Fit.{no_place};
 
@@ -21,7 +21,7 @@ fn main_block() -> Place
 
 // New tables of `main { }`.
 pub fn blank_tables(heap: Global) -> Result<Tables, AllocError>
-    ensures { IfOk result (λ t. Shows t empty-main) }
+    ensures { IfOk result (λ t. Shows t empty_main) }
 {
     let mut places: Vec<Place> = Vec::new(heap);
     places.push(main_block())?;
@@ -38,7 +38,7 @@ pub fn blank_tables(heap: Global) -> Result<Tables, AllocError>
 
 // Makes tables those of `main { }`, in the memory that they have.
 pub fn reset_tables(tables: &mut Tables)
-    ensures { Shows tables.new empty-main }
+    ensures { Shows tables.new empty_main }
 {
     tables.points.clear();
     tables.cells.clear();

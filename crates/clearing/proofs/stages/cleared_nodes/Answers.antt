@@ -9,19 +9,19 @@ use Rattle.clearing.specs.Stages.{tree_of, nodes_of}
 use Rattle.clearing.proofs.Answering.{given_stops, given_by}
 use Rattle.clearing.proofs.stages.cleared_nodes.Goals as goal
 
-pub returns-in-err-tree : goal.returns-in-err-tree
-returns-in-err-tree g c =
+pub returns-in_err-tree : goal.returns-in_err-tree
+returns-in_err-tree g c =
     let l = literal_reading g.K.NumberKind.meaning in
     let text = c.args.text.now in
-    let e = c.in-err-tree.field-0.0 in
-    let p = err_from_is_err_and c.from-residual.result c.from-residual.ensures.1 in
+    let e = c.in_err-tree.field-0.0 in
+    let p = err_from_is_err_and c.from_residual.result c.from_residual.ensures.1 in
     given_by (nodes text) {x = Err e} (sym (p.1 ∙ ap Err p.2)) refl
-    (given_stops (tree text) (nodes text) e (tree_of text) (λ t. nodes_of l t) c.in-err-tree.ensures)
+    (given_stops (tree text) (nodes text) e (tree_of text) (λ t. nodes_of l t) c.in_err-tree.ensures)
 
 pub returns : goal.returns
 returns g c =
     let l = literal_reading g.K.NumberKind.meaning in
     let text = c.args.text.now in
-    given_by (nodes text) {x = c.check-tree.result} refl
-    (sym (ap (λ (a : Answer Tree). a >>= (λ t. nodes_of l t)) c.in-ok-tree.ensures))
-    c.check-tree.ensures
+    given_by (nodes text) {x = c.check_tree.result} refl
+    (sym (ap (λ (a : Answer Tree). a >>= (λ t. nodes_of l t)) c.in_ok-tree.ensures))
+    c.check_tree.ensures
