@@ -1,4 +1,5 @@
 // The last step of clearing: the unfolded text is laid out as the tables that a board reads.
+#![tactic(auto)]
 
 mod cells;
 mod counts;
