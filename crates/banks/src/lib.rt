@@ -1,3 +1,5 @@
+#![tactic(auto)]
+
 pub mod bank;
 pub mod counter;
 pub mod laws;

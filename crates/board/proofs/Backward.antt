@@ -1,11 +1,11 @@
 -- A test by fuel over a table whose children stand after tknowing-child parents, as a loop from the last place to the first.
-use Rattle.std.proofs.Common.{◌≡◌, ℕ, zero, suc, ◌+◌, ◌-◌, ◌<◌, ◌≤◌, Bool, true, false, not, ◌&&◌, ◌||◌, eqb, ◌⊎◌, List, length, get_or, set, sym, refl, ap, ◌∙◌, subst, ap₂, inl, inr, arith, get_or-set_other, get_or-set_same}
-use Rattle.std.proofs.lemmas.Bool.{and_parts, eqb-true, not-true, eqb-false, cases_Bool}
+use Rattle.std.proofs.Common.{◌≡◌, ℕ, zero, suc, ◌+◌, ◌-◌, ◌<◌, ◌≤◌, Bool, true, false, not, ◌&&◌, ◌||◌, eqb, List, length, get_or, set, sym, refl, ap, ◌∙◌, subst, inl, inr, arith, get_or-set_other, get_or-set_same}
+use Rattle.std.proofs.lemmas.Bool.{and_parts, eqb-true, not-true, eqb-false}
 use Rattle.rules.specs.Programs.{Table}
 use Rattle.rules.specs.Trees.{nonzero}
 use Rattle.rules.specs.States.{State, Local, idle, running, parted, finished, poisoned, live}
 use Rattle.rules.specs.Moves.{any_below}
-use Rattle.rules.specs.Tests.{all_below, child, knowing_child, ready_at, ready, spoiled_at, spoiled, is_zero}
+use Rattle.rules.specs.Tests.{child, knowing_child, ready_at, ready, spoiled_at, spoiled, is_zero}
 use Rattle.lemmas.proofs.Tests.{same?}
 use Rattle.tables.proofs.Counts.{all_same, any_same}
 

@@ -1,17 +1,16 @@
 -- The loops that copy cells and start branches.
-use Rattle.std.proofs.Common.{◌≡◌, ℕ, zero, suc, ◌+◌, ◌-◌, ◌<◌, ◌≤◌, Bool, true, false, cond, ◌&&◌, ◌||◌, eqb, ltb, ◌⊎◌, List, [], ◌∷◌, length, get_or, drop, set, sym, refl, ap, ◌∙◌, subst, ap₂, inl, inr, arith, length-set, get_or-set_other, get_or-set_same}
+use Rattle.std.proofs.Common.{◌≡◌, ℕ, zero, suc, ◌+◌, ◌<◌, Bool, true, false, cond, ◌&&◌, ◌||◌, eqb, ltb, List, [], ◌∷◌, length, get_or, drop, set, sym, refl, ap, ◌∙◌, subst, inl, inr, arith, length-set, get_or-set_other, get_or-set_same}
 use mathlib.Core.Option
 use mathlib.Core.Option.{Option, some, none, map}
-use Rattle.std.proofs.lemmas.List.{at_drop_more, at_drop_all}
-use Rattle.std.proofs.lemmas.Bool.{and_parts, ltb-true, eq-eqb, ne_eqb, eqb-true}
-use Rattle.rules.specs.Programs.{Copies, pick, elem, Table}
+use Rattle.std.proofs.lemmas.List.{at_drop_more}
+use Rattle.std.proofs.lemmas.Bool.{and_parts, ltb-true, eq-eqb, ne_eqb}
+use Rattle.rules.specs.Programs.{pick, elem, Table}
 use Rattle.rules.specs.States.{State}
 use Rattle.rules.specs.Steps.{copying}
 use Rattle.rules.specs.Moves.{owns_at, runs_at, any_below}
 use Rattle.lemmas.proofs.Tests.{same?}
 use Rattle.tables.specs.declared.stmt.Copied.{Copied}
 use Rattle.board.specs.declared.state.PlaceState.{PlaceState}
-use Rattle.board.specs.declared.state.Local.TheVariants.{Running}
 use Rattle.tables.specs.Stms.{copies}
 use Rattle.tables.specs.Fit.{copies_in, places_in}
 use Rattle.board.specs.Views.{idle_place}

@@ -1,12 +1,12 @@
 -- What each way of a step makes of a state.
-use Rattle.std.proofs.Common.{◌≡◌, ℕ, zero, suc, ◌+◌, ◌<◌, ◌≤◌, Bool, true, false, cond, not, ◌&&◌, ◌||◌, eqb, ◌⊎◌, List, [], ◌∷◌, length, get_or, set, sym, refl, ap, ◌∙◌, subst, ap₂, inl, inr, zero-add, arith, length-set, get_or-set_other, get_or-set_same}
+use Rattle.std.proofs.Common.{◌≡◌, ℕ, ◌+◌, ◌<◌, ◌≤◌, Bool, true, false, cond, eqb, List, [], ◌∷◌, length, get_or, set, sym, refl, ap, ◌∙◌, subst, inl, inr, zero-add, arith, length-set, get_or-set_other, get_or-set_same}
 use mathlib.Core.Option
 use mathlib.Core.Option.{Option, some, none, map}
 use Rattle.std.proofs.lemmas.Bool.{ne_eqb, eq-eqb}
 use Rattle.rules.specs.Programs.{Table, elem}
-use Rattle.rules.specs.States.{Local, idle, running, parted}
-use Rattle.rules.specs.Effects.{Effect, only, changed, one_at, later, nothing, never}
-use Rattle.rules.specs.Steps.{step_effect, Act, stay, pass, fork, raise, halt, act_at}
+use Rattle.rules.specs.States.{Local, running, parted}
+use Rattle.rules.specs.Effects.{only, changed, one_at, later}
+use Rattle.rules.specs.Steps.{step_effect, Act, pass, fork, halt}
 use Rattle.lemmas.proofs.Tests.{same?}
 use Rattle.banks.specs.Banks as banks
 use Rattle.board.specs.declared.state.Local as enum

@@ -1,12 +1,11 @@
 -- A scan, one move at a time.
-use Rattle.std.proofs.Common.{◌≡◌, ℕ, zero, suc, ◌+◌, ◌<◌, ◌≤◌, Bool, true, false, cond, ◌⊎◌, List, [], ◌∷◌, ◌++◌, length, Some, None, sym, refl, ap, ◌∙◌, subst, inl, inr, append_assoc, add-one, arith}
-use mathlib.Core.Option.{Option, some, none}
+use Rattle.std.proofs.Common.{◌≡◌, ℕ, zero, suc, ◌+◌, ◌≤◌, List, [], ◌∷◌, ◌++◌, length, Some, sym, refl, ap, ◌∙◌, subst, append_assoc, add-one, arith}
+use mathlib.Core.Option.{some, none}
 use Rattle.std.proofs.lemmas.List.{append-nil, length_push}
 use Rattle.tables.specs.declared.moves.Move as name
 use Rattle.tables.specs.Views.{move}
 use Rattle.rules.specs.States.{Move}
 use Rattle.rules.specs.Listings.{nth, each}
-use Rattle.lemmas.proofs.Tests.{same?}
 use Rattle.board.specs.declared.scan.Scan.{Scan}
 use Rattle.board.specs.Scans.{Scanned}
 

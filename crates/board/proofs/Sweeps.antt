@@ -1,5 +1,5 @@
 -- A loop that writes every place anew.
-use Rattle.std.proofs.Common.{◌≡◌, ℕ, zero, suc, ◌+◌, ◌<◌, ◌≤◌, Bool, true, false, cond, not, ◌&&◌, ◌||◌, eqb, ◌⊎◌, List, length, get_or, set, sym, refl, ap, ◌∙◌, subst, ap₂, inl, inr, zero-add, arith, length-set, get_or-set_other, get_or-set_same}
+use Rattle.std.proofs.Common.{◌≡◌, ℕ, ◌+◌, ◌<◌, ◌≤◌, Bool, true, false, cond, ◌&&◌, eqb, List, length, get_or, set, sym, refl, ap, ◌∙◌, subst, ap₂, inl, inr, zero-add, arith, length-set, get_or-set_other, get_or-set_same}
 use mathlib.Core.Option
 use mathlib.Core.Option.{Option, some, none, map}
 use native.Mathlib.Decide.{dec_lt}
@@ -9,7 +9,7 @@ use Rattle.rules.specs.Programs.{Table}
 use Rattle.rules.specs.Trees.{within, nonzero}
 use Rattle.rules.specs.States.{Local, idle, poisoned, running}
 use Rattle.rules.specs.Readiness.{counted}
-use Rattle.rules.specs.Effects.{Effect, only, changed, MarkChange, lower_to, keep, one_at, zeros, reset}
+use Rattle.rules.specs.Effects.{Effect, changed, lower_to, keep, reset}
 use Rattle.rules.specs.Steps.{raise, step_effect, act_mark}
 use Rattle.rules.specs.Moves.{close_effect, runs_at, parts_at, meet_effect, poison_effect, observed, owns_at, any_below}
 use Rattle.lemmas.proofs.Tests.{same?}

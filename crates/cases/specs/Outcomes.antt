@@ -2,7 +2,6 @@
 -- under binary numbers and with no words to come.
 use Rattle.std.specs.Prelude.{ℕ, zero, suc, List, [], ◌∷◌, ◌++◌, length, replicate, Ok, Err}
 use Rattle.reader.specs.declared.fault.Cause.{Cause}
-use Rattle.reader.specs.declared.fault.Fault.{Fault}
 use Rattle.reader.specs.Faults.{Answer}
 use Rattle.numbers.specs.Binary.{binary}
 use Rattle.numbers.specs.Literals.{literal_reading}
@@ -10,7 +9,7 @@ use Rattle.rules.specs.declared.answers.Verdict.{Verdict}
 use Rattle.rules.specs.declared.answers.Stop as stop
 use Rattle.rules.specs.declared.answers.Stop.TheVariants as stops
 use Rattle.rules.specs.Programs.{Table}
-use Rattle.rules.specs.States.{State, powered}
+use Rattle.rules.specs.States.{powered}
 use Rattle.rules.specs.Answers.{verdict}
 use Rattle.rules.specs.Choices.{Ran, run}
 use Rattle.program.specs.Layout.{Program, table_of}

@@ -1,5 +1,5 @@
 -- Blocks: the parser and the grammar.
-use Rattle.std.proofs.Common.{◌≡◌, ℕ, zero, suc, ◌<◌, true, false, [], ◌∷◌, length, Ok, codes, sym, refl, ◌∙◌, subst, inl, inr, arith}
+use Rattle.std.proofs.Common.{◌≡◌, ℕ, zero, suc, ◌<◌, true, false, ◌∷◌, length, Ok, codes, sym, refl, ◌∙◌, subst, inl, inr, arith}
 use Rattle.reader.specs.Faults.{◌>>=◌, refuse}
 use Rattle.reader.specs.declared.fault.Cause.TheVariants.{NotAllowed, TooDeep}
 use Rattle.grammar.specs.Trees.{Stm, Block, Nil, Seq}

@@ -1,108 +1,17 @@
 -- Statements, blocks and texts can be completed where they are refused.
-use Rattle.std.proofs.Common.{◌≡◌, ℕ, zero, suc, ◌+◌, ◌<◌, ◌≤◌, Bool, true, false, T, ◌⊎◌, List, [], ◌∷◌, ◌++◌, length, Ok, Err, codes, sym, refl, ap, ◌∙◌, subst, inl, inr, append_assoc, arith, length-append}
+use Rattle.std.proofs.Common.{◌≡◌, ℕ, zero, suc, ◌<◌, Bool, true, false, T, ◌⊎◌, List, [], ◌∷◌, length, Ok, Err, codes, sym, refl, ap, subst, inl, inr, arith}
 use Rattle.lemmas.proofs.Tests.{T_at, T_true}
 use Rattle.reader.specs.declared.fault.Cause.TheVariants.{NotAllowed, TooDeep}
 use Rattle.reader.specs.Faults.{Answer, ◌>>=◌, refuse}
-use Rattle.grammar.specs.Trees.{
-  Name,
-  Exp,
-  Simple,
-  Var,
-  Set,
-  Call,
-  Next,
-  Know,
-  Throw,
-  Head,
-  Plain,
-  If,
-  While,
-  Try,
-  Take,
-  Stm,
-  One,
-  Two,
-  Par,
-  Block,
-  Nil,
-  Seq,
-  Blocks,
-  Last,
-  Also,
-}
+use Rattle.grammar.specs.Trees.{Name, Simple, Var, Set, Call, Next, Know, Throw, Plain, If, While, Try, Take, Stm, One, Two, Par, Block, Nil, Seq, Blocks, Last, Also}
 use Rattle.grammar.specs.Parsers.{Tokens, Parser, here, rest, if_so, is, is_name, bad, eat, as_name, a_name, a_number}
 use Rattle.grammar.specs.Parsing as G
 use Rattle.grammar.specs.Parsing.{in_parens, an_expression, arguments, of_name, more_blocks, statement, statements, block}
-use Rattle.grammar.specs.Language.{
-  sign,
-  name_token,
-  number_token,
-  Expression,
-  InRoom,
-  NameIs,
-  name_is,
-  Arguments,
-  UpTo,
-  enough,
-  another,
-  Statement,
-  s_var,
-  s_set,
-  s_call,
-  s_next,
-  s_know,
-  s_throw,
-  s_block,
-  s_if,
-  s_while,
-  s_try,
-  s_take,
-  s_par,
-  Statements,
-  none_left,
-  one_more,
-  Braces,
-  braces,
-  BlockIs,
-}
+use Rattle.grammar.specs.Language.{sign, name_token, Expression, NameIs, name_is, Arguments, UpTo, enough, another, Statement, s_var, s_set, s_call, s_next, s_know, s_throw, s_block, s_if, s_while, s_try, s_take, s_par, Statements, none_left, one_more, braces, BlockIs}
 use Rattle.grammar.proofs.Levels.{sign_is, name_here}
 use Rattle.grammar.proofs.StatementGrammar.{statement_shrinks}
 use Rattle.grammar.proofs.BlockGrammar.{block_shrinks, block_less}
-use Rattle.grammar.proofs.Fine.{
-  Reading,
-  Fine,
-  Good,
-  Some,
-  after,
-  weaken,
-  stop_fine,
-  ok_fine,
-  eat_fine,
-  deep_fine,
-  Then,
-  then_is,
-  Sign,
-  sign_then,
-  Mapped,
-  mapped,
-  Done,
-  done,
-  then_some,
-  sign_some,
-  mapped_some,
-  then_fine,
-  sign_fine,
-  mapped_fine,
-  last_some,
-  last_fine,
-  any_name,
-  NumberIs,
-  number_is,
-  name_some,
-  number_some,
-  name_fine,
-  number_fine,
-}
+use Rattle.grammar.proofs.Fine.{Reading, Fine, Good, Some, after, weaken, stop_fine, ok_fine, eat_fine, deep_fine, Then, then_is, Sign, sign_then, Mapped, mapped, Done, done, then_some, sign_some, mapped_some, then_fine, sign_fine, mapped_fine, last_some, last_fine, any_name, NumberIs, number_is, name_some, name_fine, number_fine}
 use Rattle.grammar.proofs.Begun.{Within, parens_some, expression_some, expression_fine, test_fine, caught_fine, called_fine}
 
 -- a choice among ways

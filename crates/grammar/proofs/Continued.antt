@@ -1,12 +1,10 @@
 -- A text that is refused can be completed before the refused token.
-use Rattle.std.proofs.Common.{◌≡◌, ℕ, zero, suc, ◌+◌, ◌<◌, ◌≤◌, Bool, true, false, List, [], ◌∷◌, ◌++◌, length, Ok, Err, codes, sym, refl, ap, ◌∙◌, subst, append_assoc, arith, length-append}
+use Rattle.std.proofs.Common.{◌≡◌, ℕ, zero, suc, ◌<◌, ◌≤◌, Bool, true, false, List, [], ◌∷◌, ◌++◌, length, Ok, Err, codes, sym, refl, ap, ◌∙◌, subst, append_assoc, arith, length-append}
 use Rattle.lemmas.proofs.Tests.{T_at}
-use Rattle.reader.specs.declared.fault.Cause.TheVariants.{NotAllowed}
-use Rattle.reader.specs.declared.fault.Fault.{Fault}
-use Rattle.reader.specs.Tokens.{Lexeme, finish}
-use Rattle.reader.specs.Faults.{Answer, ◌>>=◌, refuse}
+use Rattle.reader.specs.Tokens.{finish}
+use Rattle.reader.specs.Faults.{Answer, ◌>>=◌}
 use Rattle.grammar.specs.Trees.{Name, Block, Param, Proc, Tree}
-use Rattle.grammar.specs.Parsers.{Tokens, Parser, here, rest, if_so, is, is_finish, bad, eat, a_name}
+use Rattle.grammar.specs.Parsers.{Tokens, here, rest, if_so, is, is_finish, bad, eat, a_name}
 use Rattle.grammar.specs.Parsing as G
 use Rattle.grammar.specs.Parsing.{in_parens, block, more_params, parameters, procedures, finished, parsed}
 use Rattle.grammar.specs.Language as L
@@ -33,26 +31,7 @@ use Rattle.grammar.specs.Language.{
   RefusedBegun,
 }
 use Rattle.grammar.proofs.Levels.{sign_is}
-use Rattle.grammar.proofs.Fine.{
-  Reading,
-  Fine,
-  Good,
-  Some,
-  after,
-  weaken,
-  ok_fine,
-  Then,
-  then_is,
-  Mapped,
-  mapped,
-  then_some,
-  mapped_some,
-  then_fine,
-  mapped_fine,
-  any_name,
-  name_some,
-  name_fine,
-}
+use Rattle.grammar.proofs.Fine.{Reading, Fine, Good, Some, after, weaken, ok_fine, Then, then_is, Mapped, mapped, then_some, mapped_some, then_fine, mapped_fine, any_name, name_fine}
 use Rattle.grammar.proofs.Begun.{Within, parens_some, parens_fine}
 use Rattle.grammar.proofs.Completion.{block_some, blocks_fine}
 

@@ -1,18 +1,16 @@
 -- Expressions: the parser and the grammar.
-use Rattle.std.proofs.Common.{◌≡◌, ℕ, zero, suc, ◌<◌, ◌≤◌, Bool, true, false, cond, not, ◌&&◌, ◌||◌, T, ◌≢◌, ◌⊎◌, List, [], ◌∷◌, length, Ok, Err, codes, sym, refl, ap, ◌∙◌, subst, inl, inr, arith}
-use mathlib.Core.Option.{Option, some, none}
+use Rattle.std.proofs.Common.{◌≡◌, ℕ, zero, suc, ◌<◌, ◌≤◌, cond, List, ◌∷◌, length, Ok, codes, sym, refl, subst, inl, inr, arith}
+use mathlib.Core.Option.{some, none}
 use Rattle.lemmas.proofs.Tests.{cond_some, cond_else}
-use Rattle.reader.specs.Faults.{Answer, ◌>>=◌, refuse}
-use Rattle.reader.specs.declared.fault.Cause.{Cause}
-use Rattle.reader.specs.declared.fault.Cause.TheVariants.{NotAllowed, TooDeep}
+use Rattle.reader.specs.Faults.{◌>>=◌, refuse}
+use Rattle.reader.specs.declared.fault.Cause.TheVariants.{TooDeep}
 use Rattle.grammar.specs.Parsers.{if_so}
-use Rattle.reader.specs.Tokens.{Lexeme}
-use Rattle.grammar.specs.Trees.{Name, Op, Same, Less, Plus, Minus, Times, Exp, Use, Number, Negated, Both}
-use Rattle.grammar.specs.Parsers.{Tokens, Parser, here, rest, is_name, is_number, is, bad, eat, as_name, opening}
+use Rattle.grammar.specs.Trees.{Op, Same, Less, Plus, Minus, Times, Exp, Use, Number, Negated}
+use Rattle.grammar.specs.Parsers.{Tokens, Parser, here, rest, is_name, is_number, is, eat, as_name}
 use Rattle.grammar.specs.Parsing.{op_here, level, equals, lesses, sums, products, expression, negated, closed, in_parens, simple_atom, atom, an_expression}
-use Rattle.grammar.specs.Language.{sign, name_token, number_token, EqualSign, same_sign, LessSign, less_sign, SumSign, plus_sign, minus_sign, ProductSign, times_sign, Grouped, Atomic, a_use, a_literal, bracketed, Operand, bare, minus, ExpressionOver, Expression, Parens, parens, InRoom}
+use Rattle.grammar.specs.Language.{sign, EqualSign, same_sign, LessSign, less_sign, SumSign, plus_sign, minus_sign, ProductSign, times_sign, Grouped, Atomic, a_use, a_literal, bracketed, Operand, bare, minus, ExpressionOver, Expression, Parens, parens, InRoom}
 use Rattle.grammar.proofs.Results.{bound}
-use Rattle.grammar.proofs.Levels.{ok_eq, no_ok, if_inv, if_true, if_false, then, sign_is, eaten, name_here, number_here, Sounds, Reads, Shrinks, Any, level_sound, grouped_shrinks, level_reads}
+use Rattle.grammar.proofs.Levels.{ok_eq, no_ok, if_inv, then, sign_is, eaten, name_here, number_here, Sounds, Reads, Shrinks, Any, level_sound, grouped_shrinks, level_reads}
 
 abbrev pub Signed : (List ℕ → Op → Type 0) → Tokens → Op → Type 0
 Signed S ts o = (s : List ℕ) × S s o × (ts ≡ sign s (here ts).at ∷ rest ts)

@@ -1,5 +1,5 @@
 -- The parsers of expressions, a step at a time.
-use Rattle.std.proofs.Common.{◌≡◌, ℕ, zero, suc, ◌+◌, ◌-◌, ◌<◌, ◌≤◌, Bool, true, false, eqb, List, [], ◌∷◌, length, Ok, Err, codes, sym, refl, ap, ◌∙◌, subst, inl, inr, arith, length-drop}
+use Rattle.std.proofs.Common.{◌≡◌, ℕ, zero, suc, ◌+◌, ◌-◌, ◌<◌, Bool, true, false, eqb, List, [], ◌∷◌, length, Ok, Err, codes, sym, refl, ap, ◌∙◌, inl, inr, arith, length-drop}
 use mathlib.Core.Option.{Option, some, none}
 use Rattle.std.proofs.lemmas.Bool.{cases_lt}
 use Rattle.reader.specs.declared.fault.Cause.TheVariants.{TooDeep}
@@ -9,7 +9,7 @@ use Rattle.reader.specs.Faults.{Answer, ◌>>=◌, refuse}
 use Rattle.reader.specs.Views.{lexemes}
 use Rattle.grammar.specs.Trees.{Name, Op, Exp, Use, Number, Negated, Both}
 use Rattle.grammar.specs.Parsers.{Tokens, Parser, here, rest, if_so, is, is_name, is_number, as_name, eat}
-use Rattle.grammar.specs.Parsing.{Signs, op_here, chain, closed, an_expression}
+use Rattle.grammar.specs.Parsing.{Signs, op_here, chain}
 use Rattle.grammar.specs.Readers.{opened, signs_of, atom_at, level_at, grouped_at}
 use Rattle.grammar.specs.Reading.{token_at, code, from}
 use Rattle.grammar.proofs.Tags.{lexemes_length, from_past, rest_from, is_from, name_from, number_from, within, sign_within}

@@ -1,12 +1,10 @@
 -- A parser that goes on, or stops at a token before which what was read can be completed.
-use Rattle.std.proofs.Common.{◌≡◌, ℕ, zero, suc, ◌+◌, ◌<◌, ◌≤◌, Bool, true, false, ◌&&◌, T, List, [], ◌∷◌, ◌++◌, length, Ok, Err, codes, sym, refl, ap, ◌∙◌, subst, append_assoc, arith, length-append}
+use Rattle.std.proofs.Common.{◌≡◌, ℕ, zero, suc, ◌<◌, Bool, true, false, List, [], ◌∷◌, ◌++◌, length, Ok, Err, codes, sym, refl, ap, ◌∙◌, subst, append_assoc, arith, length-append}
 use mathlib.Core.Option.{Option, some, none}
 use Rattle.lemmas.proofs.Tests.{T_at}
 use Rattle.reader.specs.declared.fault.Cause.{Cause}
 use Rattle.reader.specs.declared.fault.Cause.TheVariants.{NotAllowed, TooDeep}
-use Rattle.reader.specs.declared.fault.Fault.{Fault}
 use Rattle.reader.specs.Faults.{Answer, ◌>>=◌, refuse}
-use Rattle.reader.specs.Tokens.{Lexeme}
 use Rattle.grammar.specs.Trees.{Name, Op, Exp, Both}
 use Rattle.grammar.specs.Parsers.{Tokens, Parser, here, rest, if_so, is, is_name, is_number, bad, eat, as_name, a_name, a_number}
 use Rattle.grammar.specs.Parsing.{Signs, op_here, chain, level}

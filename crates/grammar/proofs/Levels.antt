@@ -1,19 +1,17 @@
 -- The parser reads what the grammar gives.
-use Rattle.std.proofs.Common.{◌≡◌, ℕ, zero, suc, ◌<◌, ◌≤◌, Bool, true, false, cond, not, ◌&&◌, ◌||◌, T, ◌≢◌, ◌⊎◌, List, [], ◌∷◌, length, Ok, Err, codes, sym, refl, ap, ◌∙◌, subst, inl, inr, arith}
+use Rattle.std.proofs.Common.{◌≡◌, ℕ, zero, suc, ◌<◌, ◌≤◌, Bool, true, false, T, ◌⊎◌, List, [], ◌∷◌, length, Ok, sym, refl, ap, ◌∙◌, subst, inl, inr, arith}
 use mathlib.Core.Option.{Option, some, none}
-use Rattle.lemmas.proofs.Tests.{T_and, T_dec, T_true, T_false}
+use Rattle.lemmas.proofs.Tests.{T_and}
 use Rattle.reader.specs.Faults.{Answer, ◌>>=◌, refuse}
 use Rattle.reader.specs.declared.fault.Cause.{Cause}
-use Rattle.reader.specs.declared.fault.Cause.TheVariants.{NotAllowed, TooDeep}
+use Rattle.reader.specs.declared.fault.Cause.TheVariants.{NotAllowed}
 use Rattle.reader.specs.Tokens.{same}
 use Rattle.grammar.specs.Parsers.{if_so}
-use Rattle.reader.specs.Tokens.{Lexeme, Class, name, number, fixed, finish}
-use Rattle.grammar.specs.Trees.{Name, Op, Same, Less, Plus, Minus, Times, Exp, Use, Number, Negated, Both, Simple, Var, Set, Call, Next, Know, Throw, Head, Plain, If, While, Try, Take, Stm, One, Two, Par, Block, Nil, Seq, Blocks, Last, Also, Param, Proc, Tree}
-use Rattle.grammar.specs.Parsing as G
-use Rattle.grammar.specs.Parsers.{Tokens, Parser, here, rest, is_fixed, is_name, is_number, is_finish, is, bad, eat, opening, as_name, a_name, a_number}
-use Rattle.grammar.specs.Parsing.{Signs, op_here, chain, level, equals, lesses, sums, products, expression, negated, closed, in_parens, simple_atom, atom, an_expression, more_names, arguments, of_name, more_blocks, statement, statements, block, parsed}
-use Rattle.grammar.specs.Language as L
-use Rattle.grammar.specs.Language.{sign, name_token, number_token, EqualSign, same_sign, LessSign, less_sign, SumSign, plus_sign, minus_sign, ProductSign, times_sign, Grouped, alone, joins, Atomic, a_use, a_literal, bracketed, Operand, bare, minus, ExpressionOver, Expression, Parens, parens, InRoom, NameIs, name_is, MoreNames, no_more, comma, Arguments, no_argument, an_argument, UpTo, enough, another, Statement, s_var, s_set, s_call, s_next, s_know, s_throw, s_block, s_if, s_while, s_try, s_take, s_par, Statements, none_left, one_more, Braces, braces, BlockIs}
+use Rattle.reader.specs.Tokens.{Class, name, number, fixed, finish}
+use Rattle.grammar.specs.Trees.{Name, Op, Exp, Both}
+use Rattle.grammar.specs.Parsers.{Tokens, Parser, here, rest, is_fixed, is_name, is_number, is, bad, eat, as_name, a_name, a_number}
+use Rattle.grammar.specs.Parsing.{Signs, op_here, chain, level}
+use Rattle.grammar.specs.Language.{sign, name_token, number_token, Grouped, alone, joins}
 use Rattle.grammar.proofs.Results.{bound}
 use Rattle.grammar.proofs.Results.{same_eq}
 

@@ -1,5 +1,5 @@
 -- What the parsers of expressions do depends only on the tokens up to the next one.
-use Rattle.std.proofs.Common.{◌≡◌, ℕ, zero, suc, ◌+◌, ◌<◌, ◌≤◌, Bool, true, false, cond, List, [], ◌∷◌, ◌++◌, length, Ok, Err, codes, sym, refl, ap, ◌∙◌, subst, append_assoc, arith, length-append}
+use Rattle.std.proofs.Common.{◌≡◌, ℕ, zero, suc, ◌<◌, ◌≤◌, Bool, true, false, cond, List, [], ◌∷◌, ◌++◌, length, Ok, Err, codes, sym, refl, ap, ◌∙◌, subst, append_assoc, arith, length-append}
 use mathlib.Core.Option.{Option, some, none}
 use Rattle.reader.specs.Faults.{Answer, ◌>>=◌, refuse}
 use Rattle.reader.specs.declared.fault.Fault.{Fault}
@@ -7,7 +7,7 @@ use Rattle.reader.specs.declared.fault.Cause.TheVariants.{NotAllowed, TooDeep}
 use Rattle.grammar.specs.Parsers.{if_so}
 use Rattle.reader.specs.Tokens.{Lexeme}
 use Rattle.grammar.specs.Trees.{Op, Exp, Use, Number, Negated, Both}
-use Rattle.grammar.specs.Parsers.{Tokens, Parser, here, rest, is_name, is_number, is, bad, eat, as_name, a_name, a_number, opening}
+use Rattle.grammar.specs.Parsers.{Tokens, Parser, here, rest, is_name, is_number, is, bad, eat, as_name, a_name, a_number}
 use Rattle.grammar.specs.Parsing.{Signs, op_here, chain, level, equals, lesses, sums, products, expression, negated, closed, in_parens, simple_atom, atom, an_expression}
 use Rattle.grammar.proofs.Levels.{if_true, if_false}
 use Rattle.grammar.proofs.Locality.{Out, Local, here_app, bind_local, ok_local, bad_local, take_local, tests, eat_local, FOut, fuel_local, end_token}

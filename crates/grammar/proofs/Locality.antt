@@ -1,17 +1,13 @@
 -- What a parser does depends only on the tokens up to the next one.
-use Rattle.std.proofs.Common.{◌≡◌, ℕ, zero, suc, ◌+◌, ◌<◌, ◌≤◌, Bool, true, false, cond, not, ◌&&◌, ◌||◌, T, ◌≢◌, ◌⊎◌, List, [], ◌∷◌, ◌++◌, length, Ok, Err, codes, sym, refl, ap, ◌∙◌, subst, inl, inr, append_assoc, arith, length-append}
-use mathlib.Core.Option.{Option, some, none}
+use Rattle.std.proofs.Common.{◌≡◌, ℕ, zero, suc, ◌<◌, Bool, true, false, ◌&&◌, List, [], ◌∷◌, ◌++◌, length, Ok, Err, sym, refl, ap, ◌∙◌, subst, append_assoc, arith}
 use Rattle.reader.specs.Faults.{Answer, ◌>>=◌, refuse}
 use Rattle.reader.specs.declared.fault.Fault.{Fault}
-use Rattle.reader.specs.declared.fault.Cause.{Cause}
-use Rattle.reader.specs.declared.fault.Cause.TheVariants.{NotAllowed, TooDeep}
+use Rattle.reader.specs.declared.fault.Cause.TheVariants.{NotAllowed}
 use Rattle.reader.specs.Tokens.{same}
 use Rattle.grammar.specs.Parsers.{if_so}
-use Rattle.reader.specs.Tokens.{Lexeme, Class, name, number, fixed, finish}
-use Rattle.grammar.specs.Trees.{Op, Exp, Both}
+use Rattle.reader.specs.Tokens.{Lexeme, finish}
 use Rattle.grammar.specs.Parsers.{Tokens, Parser, here, rest, is_fixed, is, bad, eat}
-use Rattle.grammar.specs.Parsing.{Signs, op_here, chain, level}
-use Rattle.grammar.proofs.Levels.{if_true, if_false, then}
+use Rattle.grammar.proofs.Levels.{if_true, if_false}
 
 abbrev pub Out : {A : Type 0} → Parser A → Tokens → Answer (A × Tokens) → Type 0
 Out p ts (Ok x) = (pre : Tokens) × (ts ≡ pre ++ x.1) × ((r : Tokens) → here r ≡ here x.1 → p (pre ++ r) ≡ Ok (x.0, r))

@@ -1,12 +1,12 @@
 -- The operators of each rank, by the tag at an index.
-use Rattle.std.proofs.Common.{◌≡◌, ℕ, Bool, true, false, cond, eqb, List, [], ◌∷◌, codes, sym, refl, ap, ◌∙◌}
-use mathlib.Core.Option.{Option, some, none}
+use Rattle.std.proofs.Common.{◌≡◌, ℕ, Bool, cond, eqb, List, codes, refl, ap, ◌∙◌}
+use mathlib.Core.Option.{some, none}
 use Rattle.std.proofs.lemmas.Bool.{ne_eqb}
 use Rattle.reader.specs.declared.token.Token.{Token}
 use Rattle.reader.specs.declared.token.Tag.{Tag}
 use Rattle.reader.specs.declared.token.Tag.TheVariants as tags
-use Rattle.grammar.specs.Trees.{Name, Var, Op, Same, Less, Plus, Minus, Times}
-use Rattle.grammar.specs.Parsers.{Tokens, is}
+use Rattle.grammar.specs.Trees.{Name, Var, Same, Less, Plus, Minus, Times}
+use Rattle.grammar.specs.Parsers.{is}
 use Rattle.grammar.specs.Parsing.{op_here, equals}
 use Rattle.grammar.specs.Readers.{signs_of, simple_of}
 use Rattle.grammar.specs.Reading.{token_at, code, from}

@@ -1,5 +1,5 @@
 -- The parsers of parameters, procedures and whole texts, a step at a time.
-use Rattle.std.proofs.Common.{◌≡◌, ℕ, zero, suc, ◌+◌, ◌-◌, ◌<◌, ◌≤◌, Bool, true, false, eqb, List, [], ◌∷◌, ◌++◌, length, Ok, Err, codes, sym, refl, ap, ◌∙◌, subst, arith}
+use Rattle.std.proofs.Common.{◌≡◌, ℕ, zero, suc, ◌+◌, ◌-◌, ◌<◌, Bool, true, false, eqb, List, [], ◌∷◌, ◌++◌, length, Ok, Err, codes, refl, ap, ◌∙◌, arith}
 use Rattle.reader.specs.declared.fault.Cause.TheVariants.{NotAllowed}
 use Rattle.reader.specs.declared.token.Token.{Token}
 use Rattle.reader.specs.declared.token.Tag.TheVariants as tags
@@ -8,7 +8,7 @@ use Rattle.grammar.specs.declared.tree.Param as code-param
 use Rattle.grammar.specs.declared.tree.Proc as code-proc
 use Rattle.grammar.specs.Trees.{Name, Block, Param, Proc, Tree}
 use Rattle.grammar.specs.Views as view
-use Rattle.grammar.specs.Parsers.{Tokens, Parser, here, rest, if_so, is, bad, eat, a_name}
+use Rattle.grammar.specs.Parsers.{Tokens, rest, if_so, is, bad, eat, a_name}
 use Rattle.grammar.specs.Parsing.{parameters, finished, parsed}
 use Rattle.grammar.specs.Readers.{opened, block_at, param_at, parameters_at, more_params_at, listed_at, proc_at, procedures_at}
 use Rattle.grammar.specs.Reading.{token_at, code, from, in_front}

@@ -1,9 +1,8 @@
 -- The refused token is the first that goes wrong.
-use Rattle.std.proofs.Common.{◌≡◌, ℕ, zero, suc, ◌+◌, ◌<◌, Bool, true, false, not, List, [], ◌∷◌, ◌++◌, length, Ok, Err, codes, sym, refl, ap, ◌∙◌, subst, arith}
+use Rattle.std.proofs.Common.{◌≡◌, ℕ, zero, suc, ◌<◌, Bool, true, false, not, List, [], ◌∷◌, ◌++◌, length, Ok, Err, codes, sym, refl, ap, ◌∙◌, subst, arith}
 use Rattle.reader.specs.Faults.{Answer, ◌>>=◌}
 use Rattle.reader.specs.declared.fault.Fault.{Fault}
 use Rattle.grammar.specs.Parsers.{if_so}
-use Rattle.reader.specs.Tokens.{name}
 use Rattle.grammar.specs.Trees.{Name, Block, Param, Proc, Tree}
 use Rattle.grammar.specs.Parsing as G
 use Rattle.grammar.specs.Parsers.{Tokens, Parser, here, rest, is_finish, is, bad, eat, a_name}

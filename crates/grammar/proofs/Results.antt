@@ -1,5 +1,5 @@
 -- Answers that are bound, and spellings that are the same.
-use Rattle.std.proofs.Common.{◌≡◌, ℕ, Bool, true, false, cond, not, ◌&&◌, ◌||◌, T, eqb, List, [], ◌∷◌, Ok, Err, sym, refl, ap, ◌∙◌, subst, ap₂, arith, eqb→eq}
+use Rattle.std.proofs.Common.{◌≡◌, ℕ, T, eqb, List, [], ◌∷◌, Ok, Err, refl, ap₂, arith, eqb→eq}
 use Rattle.lemmas.proofs.Tests.{T_and}
 use Rattle.reader.specs.Faults.{Answer, ◌>>=◌}
 use Rattle.reader.specs.Tokens.{same}

@@ -1,14 +1,14 @@
 -- The parsers of brackets and of statements without blocks, a step at a time.
-use Rattle.std.proofs.Common.{◌≡◌, ℕ, zero, suc, ◌+◌, ◌-◌, ◌<◌, ◌≤◌, Bool, true, false, eqb, List, [], ◌∷◌, ◌++◌, length, IfOk, Ok, Err, codes, Result, sym, refl, ap, ◌∙◌, subst, append_assoc, arith}
+use Rattle.std.proofs.Common.{◌≡◌, ℕ, zero, suc, ◌+◌, ◌-◌, ◌<◌, Bool, true, false, eqb, List, [], ◌∷◌, ◌++◌, length, IfOk, Ok, Err, codes, Result, sym, refl, ap, ◌∙◌, append_assoc, arith}
 use Rattle.reader.specs.declared.fault.Error.{Error}
 use Rattle.reader.specs.declared.fault.Cause.TheVariants.{TooDeep}
 use Rattle.reader.specs.declared.token.Token.{Token}
 use Rattle.reader.specs.declared.token.Tag.TheVariants as tags
 use Rattle.reader.specs.Faults.{Answer, ◌>>=◌, refuse}
 use Rattle.grammar.specs.declared.tree.Name as code-name
-use Rattle.grammar.specs.Trees.{Name, Exp, Simple, Set, Call, Stm, One}
+use Rattle.grammar.specs.Trees.{Name, Simple, Set, Call, Stm, One}
 use Rattle.grammar.specs.Views as view
-use Rattle.grammar.specs.Parsers.{Tokens, Parser, here, rest, if_so, is, eat, a_name}
+use Rattle.grammar.specs.Parsers.{Tokens, Parser, here, rest, if_so, eat, a_name}
 use Rattle.grammar.specs.Parsing.{in_parens, more_names}
 use Rattle.grammar.specs.Readers.{opened, ended_name, level_at, arguments_at, caught_at, called_at, set_at, call_at, named_at, short_at}
 use Rattle.grammar.specs.Reading.{token_at, code, from, Beyond, in_front}

@@ -2,7 +2,6 @@
 use Rattle.std.proofs.Common.{◌≡◌, ℕ, zero, suc, ◌<◌, ◌≤◌, true, false, T, List, [], ◌∷◌, length, Ok, codes, sym, refl, ap, ◌∙◌, subst, inl, inr, arith}
 use Rattle.reader.specs.Faults.{Answer, ◌>>=◌}
 use Rattle.reader.specs.declared.fault.Cause.TheVariants.{NotAllowed}
-use Rattle.reader.specs.Tokens.{name}
 use Rattle.grammar.specs.Trees.{Name, Simple, Var, Set, Call, Next, Know, Throw, Plain, If, While, Try, Take, Stm, One, Two, Par, Block, Nil, Blocks, Last, Also}
 use Rattle.grammar.specs.Parsing as G
 use Rattle.grammar.specs.Parsers.{Tokens, Parser, here, rest, is_name, is, bad, eat, as_name, a_name, a_number}

@@ -1,5 +1,5 @@
 -- The parsers of statements and blocks, a step at a time.
-use Rattle.std.proofs.Common.{◌≡◌, ℕ, zero, suc, ◌+◌, ◌-◌, ◌<◌, ◌≤◌, Bool, true, false, eqb, List, [], ◌∷◌, length, Ok, Err, codes, sym, refl, ap, ◌∙◌, subst, inl, inr, arith}
+use Rattle.std.proofs.Common.{◌≡◌, ℕ, zero, suc, ◌+◌, ◌-◌, ◌<◌, Bool, true, false, eqb, List, [], ◌∷◌, length, Ok, Err, codes, sym, refl, ap, ◌∙◌, inl, inr, arith}
 use Rattle.std.proofs.lemmas.Bool.{cases_lt}
 use Rattle.std.proofs.lemmas.List.{get_or_past}
 use Rattle.reader.specs.declared.fault.Cause.TheVariants.{NotAllowed, TooDeep}
@@ -9,8 +9,8 @@ use Rattle.reader.specs.declared.token.Tag.TheVariants as tags
 use Rattle.reader.specs.Tokens.{Lexeme}
 use Rattle.reader.specs.Faults.{Answer, ◌>>=◌, refuse}
 use Rattle.reader.specs.Views.{class_of, spelled, part}
-use Rattle.grammar.specs.Trees.{Name, If, While, Try, Take, Plain, Var, Next, Know, Throw, Stm, Two, Par, Block, Nil, Seq, Blocks, Last, Also}
-use Rattle.grammar.specs.Parsers.{Tokens, Parser, here, rest, if_so, is, eat, a_name, a_number}
+use Rattle.grammar.specs.Trees.{If, While, Try, Take, Plain, Var, Next, Know, Throw, Stm, Two, Par, Block, Nil, Seq, Blocks, Last, Also}
+use Rattle.grammar.specs.Parsers.{Tokens, Parser, here, if_so, is, eat, a_name, a_number}
 use Rattle.grammar.specs.Readers.{
   opened,
   grouped_at,

@@ -1,5 +1,5 @@
 -- What a tag says of the token that stands at an index. Facts on all tags are computed over the table of tags.
-use Rattle.std.proofs.Common.{◌≡◌, ℕ, zero, suc, ◌+◌, ◌<◌, ◌≤◌, Bool, true, false, cond, not, ◌&&◌, ◌||◌, T, eqb, ◌⊎◌, List, [], ◌∷◌, length, get_or, drop, sym, refl, ap, ◌∙◌, subst, inl, inr, add-one, arith}
+use Rattle.std.proofs.Common.{◌≡◌, ℕ, zero, suc, ◌+◌, ◌<◌, ◌≤◌, Bool, true, false, not, ◌&&◌, ◌||◌, T, eqb, List, [], ◌∷◌, length, get_or, sym, refl, ap, ◌∙◌, subst, inl, inr, add-one, arith}
 use Rattle.std.proofs.lemmas.List.{drop_all, get_or_past}
 use Rattle.std.proofs.lemmas.Bool.{cases_lt, both_ways, eq-eqb, ne_eqb}
 use Rattle.lemmas.proofs.Tests.{T_and}
@@ -36,9 +36,9 @@ use Rattle.reader.specs.declared.token.Tag.TheVariants.{
   Main,
   End,
 }
-use Rattle.reader.specs.Tokens.{Lexeme, Class, name, number, fixed, finish, same}
+use Rattle.reader.specs.Tokens.{Lexeme, Class, fixed, same}
 use Rattle.reader.specs.Views.{class_of, spelled, part, lexeme_of, lexemes}
-use Rattle.grammar.specs.Parsers.{Tokens, here, rest, is, is_fixed, is_name, is_number, is_finish}
+use Rattle.grammar.specs.Parsers.{here, rest, is, is_fixed, is_name, is_number, is_finish}
 use Rattle.grammar.specs.Reading.{token_at, code, from}
 
 all_tags : List Tag

@@ -1,10 +1,9 @@
 -- The grammar as a relation: a tree, the tokens that begin with it, and the tokens left.
 -- `room` is how many brackets may still be opened; a relation over no room has no bracket in it.
-use Rattle.std.specs.Prelude.{◌≡◌, ℕ, zero, suc, Bool, true, false, ◌↔◌, List, [], ◌∷◌, ◌++◌, Ok, Err, codes}
-use Rattle.reader.specs.Faults.{Answer}
+use Rattle.std.specs.Prelude.{◌≡◌, ℕ, zero, suc, true, false, ◌↔◌, List, [], ◌∷◌, ◌++◌, Ok, Err, codes}
 use Rattle.reader.specs.declared.fault.Fault.{Fault}
-use Rattle.reader.specs.Tokens.{Lexeme, Class, name, number, fixed, finish}
-use Rattle.grammar.specs.Trees.{Name, Op, Same, Less, Plus, Minus, Times, Exp, Use, Number, Negated, Both, Simple, Var, Set, Call, Next, Know, Throw, Head, Plain, If, While, Try, Take, Stm, One, Two, Par, Block, Nil, Seq, Blocks, Last, Also, Param, Proc, Tree}
+use Rattle.reader.specs.Tokens.{Lexeme, name, number, fixed, finish}
+use Rattle.grammar.specs.Trees.{Name, Op, Same, Less, Plus, Minus, Times, Exp, Use, Number, Negated, Both, Var, Set, Call, Next, Know, Throw, Plain, If, While, Try, Take, Stm, One, Two, Par, Block, Nil, Seq, Blocks, Last, Also, Param, Proc, Tree}
 use Rattle.grammar.specs.Parsers.{Tokens, here}
 use Rattle.grammar.specs.Parsing.{parsed}
 

@@ -1,5 +1,5 @@
 -- The second stage of clearing reads tokens. A parser answers what it read and the tokens left.
-use Rattle.std.specs.Prelude.{ℕ, zero, suc, Bool, true, false, ◌&&◌, List, [], ◌∷◌, Ok, Err}
+use Rattle.std.specs.Prelude.{ℕ, zero, suc, Bool, true, false, ◌&&◌, List, [], ◌∷◌, Ok}
 use Rattle.reader.specs.Faults.{Answer, ◌>>=◌, refuse}
 use Rattle.reader.specs.declared.fault.Cause.TheVariants.{NotAllowed, TooDeep}
 use Rattle.reader.specs.Tokens.{same, Lexeme, Class, name, number, fixed, finish}

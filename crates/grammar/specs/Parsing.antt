@@ -1,10 +1,10 @@
 -- The second stage of clearing: tokens to the tree, by recursive descent.
-use Rattle.std.specs.Prelude.{ℕ, zero, suc, Bool, true, false, cond, not, ◌&&◌, ◌||◌, List, [], ◌∷◌, length, Ok, Err, codes}
+use Rattle.std.specs.Prelude.{ℕ, zero, suc, Bool, true, false, cond, List, [], ◌∷◌, length, Ok, codes}
 use Rattle.std.proofs.Math.Option.{Option, some, none}
 use Rattle.reader.specs.Faults.{Answer, ◌>>=◌, refuse}
 use Rattle.reader.specs.declared.fault.Cause.TheVariants.{TooDeep}
-use Rattle.grammar.specs.Trees.{Name, Op, Same, Less, Plus, Minus, Times, Exp, Use, Number, Negated, Both, Simple, Var, Set, Call, Next, Know, Throw, Head, Plain, If, While, Try, Take, Stm, One, Two, Par, Block, Nil, Seq, Blocks, Last, Also, Param, Proc, Tree}
-use Rattle.grammar.specs.Parsers.{if_so, Parser, Tokens, a_name, a_number, as_name, bad, eat, here, is, is_finish, is_fixed, is_name, is_number, opening, rest}
+use Rattle.grammar.specs.Trees.{Name, Op, Same, Less, Plus, Minus, Times, Exp, Use, Number, Negated, Both, Simple, Var, Set, Call, Next, Know, Throw, Plain, If, While, Try, Take, Stm, One, Two, Par, Block, Nil, Seq, Blocks, Last, Also, Param, Proc, Tree}
+use Rattle.grammar.specs.Parsers.{if_so, Parser, Tokens, a_name, a_number, as_name, bad, eat, here, is, is_finish, is_name, is_number, opening, rest}
 
 -- ---- expressions
 

@@ -1,5 +1,5 @@
 -- The parsers that the functions of the code stand for. Each is shut, so that a proof takes one step at a time.
-use Rattle.std.specs.Prelude.{ℕ, zero, suc, cond, List, [], ◌∷◌, Ok, Err, codes, ◌==◌}
+use Rattle.std.specs.Prelude.{ℕ, zero, suc, cond, List, Ok, codes, ◌==◌}
 use Rattle.reader.specs.declared.fault.Cause.TheVariants.{TooDeep}
 use Rattle.reader.specs.Faults.{Answer, ◌>>=◌, refuse}
 use Rattle.reader.specs.declared.token.Tag.{Tag}

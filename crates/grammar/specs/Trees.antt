@@ -1,5 +1,5 @@
 -- The tree of a text, without the memory that holds it. A statement is simple, or has a head and one or two blocks, or is a par.
-use Rattle.std.specs.Prelude.{ℕ, Bool, true, false, List, [], ◌∷◌}
+use Rattle.std.specs.Prelude.{ℕ, Bool, List}
 
 -- a name or a number, with its offset
 pub record Name : Type 0 where

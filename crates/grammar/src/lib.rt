@@ -1,4 +1,5 @@
 // The second stage of clearing: tokens become a tree.
+#![tactic(auto)]
 
 mod expressions;
 mod look;

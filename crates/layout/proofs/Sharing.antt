@@ -1,10 +1,9 @@
 -- The copies for the variables that a branch reads, from an index on.
-use Rattle.std.proofs.Common.{◌≡◌, ℕ, ◌+◌, ◌<◌, ◌≤◌, Bool, true, false, ◌&&◌, List, [], ◌∷◌, ◌++◌, length, get_or, drop, Some, None, Option, sym, refl, ap, ◌∙◌, append_assoc, append-nil}
+use Rattle.std.proofs.Common.{◌≡◌, ℕ, ◌+◌, ◌<◌, ◌≤◌, true, List, [], ◌∷◌, ◌++◌, length, get_or, drop, Some, None, Option, sym, refl, ap, ◌∙◌, append_assoc, append-nil}
 use Rattle.std.proofs.lemmas.List.{at_drop_more, at_drop_all}
 use Rattle.std.proofs.lemmas.Bool.{and_parts, and_from}
 use Rattle.rules.specs.Programs.{Copies}
 use Rattle.unfold.specs.declared.nodes.Got as code_got
-use Rattle.unfold.specs.Unfolded.{Got}
 use Rattle.unfold.specs.Variables.{got_copies}
 use Rattle.unfold.specs.Views.{got, gots}
 use Rattle.layout.specs.Fits.{gots_fit}

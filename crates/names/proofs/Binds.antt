@@ -1,5 +1,5 @@
 -- What follows an answer.
-use Rattle.std.proofs.Common.{◌≡◌, Ok, Err, sym, refl, ap, ◌∙◌}
+use Rattle.std.proofs.Common.{◌≡◌, Ok, Err, sym, ap}
 use Rattle.reader.specs.declared.fault.Fault.{Fault}
 use Rattle.reader.specs.Faults.{Answer, ◌>>=◌}
 

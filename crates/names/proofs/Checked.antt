@@ -1,5 +1,5 @@
 -- The stage as a walk over the sites.
-use Rattle.std.proofs.Common.{◌≡◌, ℕ, Bool, true, false, not, eqb, List, [], ◌∷◌, ◌++◌, length, is_some, Some, None, Ok, Err, Option, sym, refl, ap, ◌∙◌, subst}
+use Rattle.std.proofs.Common.{◌≡◌, ℕ, Bool, true, not, eqb, List, [], ◌∷◌, ◌++◌, length, is_some, Some, None, Ok, Err, Option, sym, refl, ap, ◌∙◌}
 use Rattle.reader.specs.Faults.{Answer, ◌>>=◌, must, refuse}
 use Rattle.reader.specs.Tokens.{among}
 use Rattle.reader.specs.declared.fault.Cause.{Cause}

@@ -1,5 +1,5 @@
 -- What a statement declares, in the table and in the scope.
-use Rattle.std.proofs.Common.{◌≡◌, ℕ, List, [], ◌∷◌, ◌++◌, length, take, Ok, Err, Result, sym, refl, ap, ◌∙◌, subst, append-nil}
+use Rattle.std.proofs.Common.{◌≡◌, ℕ, List, [], ◌++◌, length, take, Ok, Err, Result, sym, refl, ap, ◌∙◌, subst, append-nil}
 use Rattle.std.proofs.lemmas.List.{take_at}
 use Rattle.reader.specs.declared.fault.Error.{Error}
 use Rattle.reader.specs.declared.fault.Error.TheVariants.{Refused, OutOfMemory}
@@ -11,7 +11,7 @@ use Rattle.grammar.specs.declared.tree.Stmt as code-stmt
 use Rattle.grammar.specs.declared.tree.Block as code-block
 use Rattle.grammar.specs.declared.tree.Block.TheVariants as stmts
 use Rattle.grammar.specs.Trees.{Proc}
-use Rattle.grammar.specs.Views.{name, stm, block}
+use Rattle.grammar.specs.Views.{stm, block}
 use Rattle.names.specs.Naming.{Reading, Scope, declared, names_stm, names_block}
 use Rattle.names.specs.Scopes.{scope, declares}
 use Rattle.names.proofs.Stacks.{stacked_push}

@@ -1,13 +1,13 @@
 -- The tests of the sites tell what the rules ask, and the walk finds the first site that is wrong.
-use Rattle.std.proofs.Common.{◌≡◌, ℕ, ◌≤◌, Bool, true, false, not, ◌||◌, eqb, leb, ◌⊎◌, List, [], ◌∷◌, length, is_some, Some, None, Ok, Err, Decides, Option, Result, sym, refl, ap, ◌∙◌, subst, inl, inr, arith, eq-eqb, eqb-true, le-leb, leb-true}
+use Rattle.std.proofs.Common.{◌≡◌, ℕ, ◌≤◌, Bool, true, false, not, ◌||◌, leb, ◌⊎◌, List, [], ◌∷◌, length, is_some, Some, None, Ok, Err, Decides, Option, Result, sym, refl, ap, ◌∙◌, subst, inl, inr, arith, eq-eqb, eqb-true, le-leb, leb-true}
 use Rattle.reader.specs.declared.fault.Fault.{Fault}
 use Rattle.reader.specs.declared.fault.Error.{Error}
 use Rattle.reader.specs.declared.fault.Error.TheVariants.{Refused, OutOfMemory}
 use Rattle.reader.specs.Faults.{Answer, Meets, ◌>>=◌, must}
 use Rattle.reader.specs.Tokens.{same, among}
 use Rattle.numbers.specs.Literals.{digits_value}
-use Rattle.grammar.specs.Trees.{Name, Proc, Tree}
-use Rattle.names.specs.Naming.{Reading, Scope, is_port, find_proc, named}
+use Rattle.grammar.specs.Trees.{Proc, Tree}
+use Rattle.names.specs.Naming.{Reading, Scope, find_proc, named}
 use Rattle.names.specs.Sites.{
   Site,
   uses,
@@ -28,7 +28,7 @@ use Rattle.names.specs.Sites.{
 }
 use Rattle.names.specs.Laws.{PassesWhenRight, RefusesFirstWrong}
 use Rattle.names.proofs.Spelling.{same_decides}
-use Rattle.names.proofs.Checked.{fits, test, held, checked, named_is}
+use Rattle.names.proofs.Checked.{fits, test, checked, named_is}
 
 clash : {A : Type 0} → true ≡ false → A
 clash e = absurd (let z : ◌≡◌ {A = ℕ} 0 1 = cc in omega arith)

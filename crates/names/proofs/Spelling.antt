@@ -1,6 +1,6 @@
 -- Two names are the same where their bytes are.
-use Rattle.std.proofs.Common.{◌≡◌, ℕ, Bool, true, false, ◌&&◌, List, [], ◌∷◌, Decides, sym, refl, ap, ◌∙◌, subst, arith}
-use Rattle.std.proofs.lemmas.Slice.Eq.{IsBytesEq, compares_Decides}
+use Rattle.std.proofs.Common.{◌≡◌, ℕ, Bool, true, false, List, Decides, sym, refl}
+use Rattle.std.proofs.lemmas.Slice.Eq.{compares_Decides}
 use Rattle.reader.specs.Tokens.{same}
 
 pub same_decides : (a b : List ℕ) → Decides (same a b) (a ≡ b)

@@ -1,18 +1,15 @@
 -- Loops over the parameters of a procedure and over the procedures.
-use Rattle.std.proofs.Common.{◌≡◌, ℕ, ◌+◌, ◌-◌, ◌<◌, ◌≤◌, List, [], ◌∷◌, ◌++◌, length, get_or, take, drop, Ok, Err, Result, sym, refl, ap, ◌∙◌, subst, arith}
+use Rattle.std.proofs.Common.{◌≡◌, ℕ, ◌+◌, ◌<◌, ◌≤◌, List, [], ◌∷◌, ◌++◌, length, get_or, take, drop, Ok, Err, Result, sym, ap, ◌∙◌}
 use Rattle.std.proofs.lemmas.List.{take_more, take_all, at_drop_more, at_drop_all}
 use Rattle.reader.specs.declared.fault.Error.{Error}
 use Rattle.reader.specs.declared.fault.Error.TheVariants.{Refused, OutOfMemory}
-use Rattle.reader.specs.declared.fault.Fault.{Fault}
 use Rattle.reader.specs.Faults.{Answer, Meets, ◌>>=◌}
-use Rattle.grammar.specs.declared.tree.Name as code-name
 use Rattle.grammar.specs.declared.tree.Param as code-param
 use Rattle.grammar.specs.declared.tree.Proc as code-proc
-use Rattle.grammar.specs.declared.tree.Block as code-block
 use Rattle.grammar.specs.Trees.{Proc}
-use Rattle.grammar.specs.Views.{name, params, proc, procs, block}
-use Rattle.names.specs.Naming.{Reading, Scope, undeclared, names_params, names_proc, names_procs, names_block}
-use Rattle.names.specs.Scopes.{scope, after, ended}
+use Rattle.grammar.specs.Views.{name, params, proc, procs}
+use Rattle.names.specs.Naming.{Reading, Scope, undeclared, names_params, names_proc, names_procs}
+use Rattle.names.specs.Scopes.{ended}
 use Rattle.names.proofs.Finding.{after_push}
 
 pub params_more : (text : List ℕ) (v : Scope) (ps : List code-param.Param) (i : ℕ) (d : code-param.Param) → i < length ps

@@ -2,7 +2,6 @@
 -- what the rules ask of each; and what it is for a text to be in order, or to have its first fault somewhere.
 use Rattle.std.specs.Prelude.{◌≡◌, ℕ, ◌≤◌, ◌⊎◌, List, [], ◌∷◌, ◌++◌, length, Some, Ok, Err, Result, ◌≢◌}
 use Rattle.reader.specs.declared.fault.Fault.{Fault}
-use Rattle.reader.specs.declared.fault.Cause.{Cause}
 use Rattle.reader.specs.declared.fault.Cause.TheVariants.{NotVisible, Redeclared, ArgumentCount, OutOfRange}
 use Rattle.reader.specs.declared.fault.Error.{Error}
 use Rattle.reader.specs.declared.fault.Error.TheVariants.{Refused, OutOfMemory}

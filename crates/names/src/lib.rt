@@ -1,4 +1,5 @@
 // The third stage of clearing: names, arguments, literals and ports.
+#![tactic(auto)]
 
 mod exprs;
 pub mod laws;

@@ -1,3 +1,5 @@
+#![tactic(auto)]
+
 pub mod binary;
 pub mod decimal;
 pub mod digits;

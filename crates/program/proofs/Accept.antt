@@ -1,12 +1,11 @@
 -- The program that a clear leaves is sound.
-use Rattle.std.proofs.Common.{◌≡◌, ℕ, zero, suc, ◌+◌, ◌-◌, ◌<◌, ◌≤◌, Bool, true, false, cond, not, ◌&&◌, ◌||◌, T, ◌≢◌, ◌⊎◌, List, [], ◌∷◌, ◌++◌, length, get_or, Some, None, Ok, Err, Option, sym, refl, ap, ◌∙◌, subst, inl, inr, arith, length-append}
+use Rattle.std.proofs.Common.{◌≡◌, ℕ, zero, suc, ◌+◌, ◌-◌, ◌<◌, ◌≤◌, T, List, [], ◌∷◌, ◌++◌, length, get_or, Ok, Err, sym, refl, ap, ◌∙◌, subst, inl, inr, arith, length-append}
 use native.Mathlib.Decide.{dec_lt}
 use lib.ListN.{get_or-eq_default}
 use Rattle.rules.specs.Soundness.{Sound}
 use Rattle.rules.specs.Trees.{nonzero}
 use Rattle.lemmas.proofs.Tests.{same?}
 use Rattle.reader.specs.Faults.{Answer, ◌>>=◌}
-use Rattle.reader.specs.declared.fault.Fault.{Fault}
 use Rattle.grammar.specs.Trees.{Proc, Block}
 use Rattle.reader.specs.Tokens.{tokenized}
 use Rattle.grammar.specs.Parsing.{parsed}
@@ -17,7 +16,7 @@ use Rattle.unfold.specs.Sharing.{sharing, ports}
 use Rattle.program.specs.Layout.{Program, Point, Place, Cell, laid_out, table_of, points, placing, cells, ends, no_point, no_place, no_cell}
 use Rattle.program.specs.Sizes.{entry, size, how_many}
 use Rattle.program.specs.Clearing.{cleared, left, AcceptedSound}
-use Rattle.program.proofs.Facts.{Good, Fine, all_sound, pos, nonzero_at}
+use Rattle.program.proofs.Facts.{Good, Fine, all_sound, pos}
 use Rattle.program.proofs.Agree.{Agrees, first, second, itself, points_size, placing_size}
 use Rattle.program.proofs.Proper.{Proper}
 use Rattle.program.proofs.Walk.{low, entry_at, over, walk}

@@ -1,11 +1,11 @@
 -- A list that stands in a view from an index on; sizes of the laid-out lists; ranges.
-use Rattle.std.proofs.Common.{◌≡◌, ℕ, zero, suc, ◌+◌, ◌<◌, ◌≤◌, Bool, true, false, cond, not, ◌&&◌, ◌||◌, T, eqb, ◌≢◌, ◌⊎◌, List, [], ◌∷◌, ◌++◌, length, get_or, sym, refl, ap, ◌∙◌, subst, inl, inr, arith, eqb→eq, length-append}
+use Rattle.std.proofs.Common.{◌≡◌, ℕ, suc, ◌+◌, ◌<◌, ◌≤◌, not, T, eqb, List, [], ◌∷◌, ◌++◌, length, get_or, sym, refl, ap, subst, inl, inr, arith, eqb→eq, length-append}
 use native.Mathlib.Decide.{dec_lt}
 use Rattle.rules.specs.Programs.{elem}
-use Rattle.lemmas.proofs.Tests.{same?, T_or, or_l, or_r, T_and, eq_eqb}
-use Rattle.unfold.specs.Unfolded.{Got, Node, one, throws, two, par, Nodes, nil, seq, Branches, last, also}
+use Rattle.lemmas.proofs.Tests.{same?, T_or, or_l, or_r, T_and}
+use Rattle.unfold.specs.Unfolded.{Node, one, throws, two, par, Nodes, nil, seq, Branches, last, also}
 use Rattle.unfold.specs.Sharing.{none_in}
-use Rattle.program.specs.Layout.{Open, Point, Place, node_points, points, branch_points, node_placing, placing, branch_placing, part_after, part_catches, part_opens}
+use Rattle.program.specs.Layout.{Open, node_points, points, branch_points, node_placing, placing, branch_placing, part_after, part_catches, part_opens}
 use Rattle.program.specs.Sizes.{node_size, size, branch_size, node_places, how_many, branch_places, entry}
 
 abbrev pub Agrees : {A : Type 0} → (ℕ → A) → ℕ → List A → Type 0

@@ -1,19 +1,19 @@
 -- The counts of stage 4 are the sizes of the unfolded text, and keep the limits.
-use Rattle.std.proofs.Common.{◌≡◌, ℕ, zero, suc, ◌+◌, ◌<◌, ◌≤◌, Bool, true, false, cond, not, ◌&&◌, ◌||◌, T, leb, ◌≢◌, ◌⊎◌, List, [], ◌∷◌, ◌++◌, length, Some, None, Ok, Err, Option, sym, refl, ap, ◌∙◌, subst, inl, inr, arith, leb→le, length-append}
+use Rattle.std.proofs.Common.{◌≡◌, ℕ, suc, ◌+◌, ◌≤◌, Bool, true, false, ◌&&◌, leb, List, [], ◌∷◌, length, Some, Ok, Option, refl, ap, ◌∙◌, subst, arith, leb→le, length-append}
 use Rattle.lemmas.proofs.Tests.{T_and}
-use Rattle.reader.specs.Faults.{Answer, ◌>>=◌, must}
+use Rattle.reader.specs.Faults.{◌>>=◌, must}
 use Rattle.reader.specs.Tokens.{same, tokenized}
-use Rattle.grammar.specs.Trees.{Name, Simple, Var, Set, Call, Next, Know, Throw, Stm, One, Two, Par, Block, Nil, Seq, Blocks, Last, Also, Param, Proc, Tree}
+use Rattle.grammar.specs.Trees.{Simple, Var, Set, Call, Next, Know, Throw, Stm, One, Two, Par, Block, Nil, Seq, Blocks, Last, Also, Proc}
 use Rattle.grammar.specs.Parsing.{parsed}
 use Rattle.names.specs.Naming.{Reading, named}
-use Rattle.unfold.specs.Unfolded.{Got, Part, calls, Node, one, throws, two, par, Nodes, nil, seq, Branches, last, also}
+use Rattle.unfold.specs.Unfolded.{calls, Node, one, throws, two, par, Nodes, nil, seq, Branches, last, also}
 use Rattle.unfold.specs.Scopes.{Env, found, stands, resolved}
 use Rattle.unfold.specs.Variables.{ParamsOf, uses_block, gets, got_new, got_env, all_get, all_new}
 use Rattle.unfold.specs.Unfolding.{branch_count, passes, Count, brings, Callee, Callees, params_of, head_part, unfold_simple, env_after, unfold_stm, unfold_block, unfold_blocks, callees, unfolded}
 use Rattle.unfold.specs.Sharing.{sharing}
-use Rattle.program.specs.Layout.{Program, laid_out, cells, points, placing, ends}
+use Rattle.program.specs.Layout.{Program, laid_out, cells, points, ends}
 use Rattle.program.specs.Sizes.{node_size, size, branch_size, node_places, how_many, branch_places}
-use Rattle.program.specs.Clearing.{cleared, WithinLimits}
+use Rattle.program.specs.Clearing.{WithinLimits}
 use Rattle.program.proofs.Agree.{points_size, placing_size}
 use Rattle.program.proofs.Unfolds.{block_ok, callees_ok}
 use Rattle.program.proofs.Accept.{cell_in, ends_size}

@@ -1,12 +1,12 @@
 -- Different names of an environment stand for different own cells.
-use Rattle.std.proofs.Common.{◌≡◌, ℕ, zero, suc, ◌+◌, ◌<◌, ◌≤◌, Bool, true, false, cond, not, ◌&&◌, ◌||◌, T, eqb, ◌≢◌, ◌⊎◌, List, [], ◌∷◌, ◌++◌, length, Some, None, Ok, Err, Option, sym, refl, ap, ◌∙◌, subst, ap₂, inl, inr, arith, eqb→eq, T_not}
+use Rattle.std.proofs.Common.{◌≡◌, ℕ, suc, ◌+◌, ◌<◌, ◌≤◌, Bool, true, false, not, T, eqb, ◌≢◌, ◌⊎◌, List, [], ◌∷◌, length, Some, None, Ok, Option, sym, refl, ap, ◌∙◌, subst, ap₂, inl, inr, arith, eqb→eq, T_not}
 use lib.Dec.{eqb_refl, not_T}
 use Rattle.rules.specs.Programs.{elem}
-use Rattle.lemmas.proofs.Tests.{T_and, and_T, T_or, or_l, or_r, T_dec, eq_eqb}
+use Rattle.lemmas.proofs.Tests.{T_and, and_T, T_or, or_l, or_r}
 use Rattle.reader.specs.Faults.{Answer, ◌>>=◌}
 use Rattle.reader.specs.Tokens.{same, among}
 use Rattle.grammar.specs.Trees.{Name, Param, Blocks, Last, Also}
-use Rattle.unfold.specs.Unfolded.{New, Got, Nodes, Branches, last, also}
+use Rattle.unfold.specs.Unfolded.{Got, Branches, last, also}
 use Rattle.unfold.specs.Scopes.{found, Binding, Env, lookup, stands}
 use Rattle.unfold.specs.Variables.{Uses, ParamsOf, uses_block, written, gets, got_new, got_env, all_get, all_new}
 use Rattle.unfold.specs.Unfolding.{Passed, by_reference, by_value, passes}

@@ -1,11 +1,11 @@
 -- What each point and each place of a program must be, and that this makes a table sound.
-use Rattle.std.proofs.Common.{◌≡◌, ℕ, zero, suc, ◌+◌, ◌<◌, ◌≤◌, Bool, true, false, cond, not, ◌&&◌, ◌||◌, T, eqb, ◌≢◌, ◌⊎◌, List, [], ◌∷◌, ◌++◌, get_or, sym, refl, ap, ◌∙◌, subst, inl, inr, arith, eqb→eq}
-use mathlib.Core.Option.{Option, some, none}
+use Rattle.std.proofs.Common.{◌≡◌, ℕ, zero, suc, ◌<◌, ◌≤◌, T, eqb, ◌≢◌, ◌⊎◌, List, [], sym, refl, ap, ◌∙◌, subst, inl, inr, arith, eqb→eq}
+use mathlib.Core.Option.{some}
 use native.Mathlib.Decide.{dec_lt}
 use lib.Dec.{not_T}
 use Rattle.rules.specs.Programs.{Table, awaits, elem, Copies}
 use Rattle.rules.specs.Soundness.{Sound, Catches, Leads, Touches, Takes, Beside}
-use Rattle.rules.specs.Trees.{Climb, here, more, Within, Child, nonzero}
+use Rattle.rules.specs.Trees.{here, more, Within, Child, nonzero}
 use Rattle.lemmas.proofs.Tests.{T_dec, same?}
 use Rattle.rules.proofs.Tree.{compare_ways}
 use Rattle.unfold.specs.Unfolded.{Got}

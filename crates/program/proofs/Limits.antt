@@ -1,23 +1,22 @@
 -- After stage 3, stage 4 refuses only where a limit is passed.
-use Rattle.std.proofs.Common.{◌≡◌, ℕ, zero, suc, ◌+◌, Bool, true, false, cond, not, ◌&&◌, ◌||◌, T, eqb, leb, ◌≢◌, ◌⊎◌, List, [], ◌∷◌, ◌++◌, length, is_some, Some, None, Ok, Err, Option, sym, refl, ap, ◌∙◌, subst, inl, inr, arith, eqb→eq, T_not}
+use Rattle.std.proofs.Common.{◌≡◌, ℕ, suc, ◌+◌, Bool, true, false, cond, not, ◌&&◌, ◌||◌, T, eqb, leb, ◌⊎◌, List, [], ◌∷◌, ◌++◌, length, is_some, Some, None, Ok, Err, Option, sym, refl, ap, ◌∙◌, subst, inl, inr, arith, eqb→eq}
 use Rattle.rules.specs.Programs.{Expr}
 use Rattle.lemmas.proofs.Tests.{T_or, or_l, or_r, T_dec, T_true, T_false}
-use Rattle.reader.specs.Faults.{Answer, ◌>>=◌, refuse, must}
+use Rattle.reader.specs.Faults.{Answer, ◌>>=◌, must}
 use Rattle.reader.specs.declared.fault.Fault.{Fault}
 use Rattle.reader.specs.Tokens.{same, among}
-use Rattle.grammar.specs.Trees.{Name, Op, Exp, Use, Number, Negated, Both, Simple, Var, Set, Call, Next, Know, Throw, Head, Plain, If, While, Try, Take, Stm, One, Two, Par, Block, Nil, Seq, Blocks, Last, Also, Param, Proc, Tree}
+use Rattle.grammar.specs.Trees.{Name, Exp, Use, Number, Negated, Both, Simple, Var, Set, Call, Next, Know, Throw, Head, Plain, If, While, Try, Take, Stm, One, Two, Par, Block, Nil, Seq, Blocks, Last, Also, Param, Proc}
 use Rattle.numbers.specs.Literals.{digits_value}
-use Rattle.names.specs.Naming.{Reading, is_port, Scope, find_proc, visible, all_visible, undeclared, names_exp, names_call, names_simple, names_head, declared, names_stm, names_block, names_blocks, names_params, names_proc, names_procs, named}
-use Rattle.unfold.specs.Unfolded.{New, Got, Part, plain, calls, tests, loops, tries, takes, Node, one, throws, two, par, Nodes, nil, seq, Branches, last, also}
+use Rattle.names.specs.Naming.{Reading, is_port, Scope, find_proc, visible, all_visible, undeclared, names_exp, names_call, names_simple, names_head, declared, names_stm, names_block, names_blocks, names_params, names_proc, names_procs}
+use Rattle.unfold.specs.Unfolded.{Part, plain, calls, tests, loops, tries, takes, one, throws, two, par, nil, seq, last, also}
 use Rattle.unfold.specs.Scopes.{Binding, Env, lookup, found, stands, joined, resolved}
 use Rattle.unfold.specs.Variables.{Uses, ParamsOf, uses_exp, uses_args, uses_simple, uses_head, uses_stm, uses_block, uses_blocks, written, gets, got_new, got_env, all_get, all_new}
-use Rattle.unfold.specs.Unfolding.{port_of, branch_count, Passed, by_reference, by_value, passes, Count, brings, Callee, Callees, params_of, head_part, unfold_simple, env_after, unfold_stm, unfold_block, unfold_blocks, callees, unfolded}
+use Rattle.unfold.specs.Unfolding.{port_of, branch_count, Passed, by_reference, by_value, passes, Count, brings, Callee, Callees, params_of, head_part, unfold_simple, env_after, unfold_stm, unfold_block, unfold_blocks, callees}
 use Rattle.program.specs.Clearing.{OnlyLimits}
 use Rattle.program.proofs.Distinct.{same_eq, same_refl}
 use Rattle.reader.specs.declared.fault.Cause.{Cause}
 use Rattle.reader.specs.declared.fault.Cause.TheVariants.{ArgumentCount, NotVisible, OutOfRange, OverLimit, Redeclared}
 use Rattle.rules.specs.Programs as rules
-use Rattle.names.specs.Naming as N
 use Rattle.program.proofs.Results.{bound, must_be}
 
 -- ---- results that are Err only by a limit

@@ -1,10 +1,10 @@
 -- The unfolded text's cells are right.
-use Rattle.std.proofs.Common.{◌≡◌, ℕ, zero, suc, ◌+◌, ◌<◌, ◌≤◌, Bool, true, false, cond, not, ◌&&◌, ◌||◌, T, eqb, leb, ◌≢◌, ◌⊎◌, List, [], ◌∷◌, ◌++◌, length, Some, None, Ok, Err, Option, sym, refl, ap, ◌∙◌, subst, inl, inr, arith, length-append}
+use Rattle.std.proofs.Common.{◌≡◌, ℕ, suc, ◌+◌, ◌≤◌, Bool, true, false, ◌&&◌, T, eqb, leb, ◌⊎◌, List, [], ◌∷◌, ◌++◌, length, Some, None, Ok, Option, sym, refl, ap, ◌∙◌, subst, inl, inr, arith, length-append}
 use mathlib.Core.Option.{some, none}
 use Rattle.rules.specs.Programs.{Expr, own, word, plus, minus, times, below, awaits, elem, Copies}
-use Rattle.rules.specs.Soundness.{Reads, Touches}
+use Rattle.rules.specs.Soundness.{Reads}
 use Rattle.lemmas.proofs.Tests.{or_l, or_r, eq_eqb, some_none, pair_eq}
-use Rattle.reader.specs.Faults.{Answer, ◌>>=◌, must, refuse}
+use Rattle.reader.specs.Faults.{Answer, ◌>>=◌, must}
 use Rattle.reader.specs.Tokens.{same, among}
 use Rattle.grammar.specs.Trees.{Name, Op, Same, Less, Plus, Minus, Times, Exp, Use, Number, Negated, Both, Simple, Var, Set, Call, Next, Know, Throw, Head, Plain, If, While, Try, Take, Stm, One, Two, Par, Block, Nil, Seq, Blocks, Last, Also, Param, Proc}
 use Rattle.names.specs.Naming.{Reading}
@@ -17,7 +17,7 @@ use Rattle.program.specs.Layout.{Cell, cells_of, node_cells, cells, branch_cells
 use Rattle.program.specs.Sizes.{node_places, how_many}
 use Rattle.program.proofs.Facts.{Own, Home, CellAt}
 use Rattle.program.proofs.Agree.{Agrees, first, second}
-use Rattle.program.proofs.Proper.{inert, PartTouches, Source, GotProper, GotsProper, ProperNode, Proper, ProperBranches}
+use Rattle.program.proofs.Proper.{PartTouches, GotsProper, ProperNode, Proper, ProperBranches}
 use Rattle.program.proofs.Walk.{Pairs, copied}
 use Rattle.program.proofs.Distinct.{Away, Inj, Below, below_more, src_below, pass_src, Rising, RisingB, AllInj, all_src, apart_all}
 use Rattle.reader.specs.declared.fault.Cause.TheVariants.{NotVisible, OutOfRange, OverLimit}

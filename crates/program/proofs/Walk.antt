@@ -1,23 +1,21 @@
 -- A laid-out tree whose cells are right and whose branches share nothing: each point and each place is as it must be.
-use Rattle.std.proofs.Common.{◌≡◌, ℕ, zero, suc, ◌+◌, ◌<◌, ◌≤◌, Bool, true, false, cond, not, ◌&&◌, ◌||◌, T, eqb, ◌≢◌, ◌⊎◌, List, [], ◌∷◌, ◌++◌, length, get_or, Some, None, Ok, Err, Option, sym, refl, ap, ◌∙◌, subst, inl, inr, arith, eqb→eq, length-append}
+use Rattle.std.proofs.Common.{◌≡◌, ℕ, suc, ◌+◌, ◌<◌, ◌≤◌, Bool, true, false, cond, not, T, eqb, ◌≢◌, ◌⊎◌, List, [], ◌∷◌, ◌++◌, length, get_or, Some, None, Ok, Option, sym, refl, ap, ◌∙◌, subst, inl, inr, arith, eqb→eq, length-append}
 use mathlib.Core.Option.{some, none}
-use native.Mathlib.Decide.{dec_lt}
-use lib.Dec.{not_T}
 use lib.ListN.{get_or-append}
 use Rattle.rules.specs.Programs.{Table, awaits, elem, Copies, pick}
-use Rattle.rules.specs.Trees.{Climb, here, more, Within, Child, nonzero}
+use Rattle.rules.specs.Trees.{here, more, Within, Child, nonzero}
 use Rattle.rules.specs.Soundness.{Catches, Leads, Touches, Takes, Copied}
 use Rattle.lemmas.proofs.Tests.{T_and, T_or, or_l, or_r, T_dec, same?, eq_eqb, some_none, pair_eq}
-use Rattle.reader.specs.Faults.{Answer, ◌>>=◌, must, refuse}
+use Rattle.reader.specs.Faults.{◌>>=◌, must}
 use Rattle.reader.specs.Tokens.{same}
 use Rattle.unfold.specs.Unfolded.{Got, Part, plain, calls, tests, loops, tries, takes, Node, one, throws, two, par, Nodes, nil, seq, Branches, last, also}
 use Rattle.unfold.specs.Variables.{got_copies}
 use Rattle.unfold.specs.Sharing.{owns, homes, part_ports, node_ports, ports, branch_ports, none_in, none_in_any, apart, of_branches, all_ports, names_apart, names_distinct, all_writes, part_sharing, part_tries, node_sharing, sharing, branches_sharing}
-use Rattle.program.specs.Layout.{Open, Point, Place, Cell, no_place, node_points, points, branch_points, node_placing, placing, branch_placing, part_after, part_stm, part_catches, part_opens, nearest, thrown, branch_list, branch_copies}
+use Rattle.program.specs.Layout.{Open, Point, Place, Cell, node_points, points, branch_points, node_placing, placing, branch_placing, part_after, part_stm, part_catches, part_opens, nearest, thrown, branch_list, branch_copies}
 use Rattle.program.specs.Sizes.{node_size, size, branch_size, node_places, how_many, branch_places, part_entry, node_entry, entry}
-use Rattle.program.proofs.Facts.{tab, Own, Home, CellAt, Good, Fine, pos, nonzero_at, climb_le}
-use Rattle.program.proofs.Agree.{Agrees, first, second, node_points_size, points_size, branch_points_size, node_placing_size, placing_size, branch_placing_size, join, onto, elem_left, elem_right, none_both}
-use Rattle.program.proofs.Proper.{inert, PartTouches, SharingPart, Source, GotProper, GotsProper, ProperNode, Proper, ProperBranches}
+use Rattle.program.proofs.Facts.{tab, Own, Home, CellAt, Good, Fine, nonzero_at, climb_le}
+use Rattle.program.proofs.Agree.{Agrees, first, second, node_points_size, points_size, node_placing_size, placing_size, join, onto, elem_left, elem_right, none_both}
+use Rattle.program.proofs.Proper.{inert, PartTouches, SharingPart, Source, GotsProper, ProperNode, Proper, ProperBranches}
 use Rattle.reader.specs.declared.fault.Cause.TheVariants.{PortTwice, ReferencedTwice, WrittenTwice}
 use Rattle.rules.specs.Programs as rules
 use Rattle.program.proofs.Results.{bound, must_be}

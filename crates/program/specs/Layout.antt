@@ -2,7 +2,7 @@
 -- A statement's point is its number in the unfolded text; the ends of the places follow. The main block is place 0, and each
 -- branch of a par gets the next number where it begins in the unfolded text: a branch, all that is inside it, then the next branch.
 -- Cells are in the order of the statements that bring them.
-use Rattle.std.specs.Prelude.{ℕ, zero, suc, ◌+◌, Bool, true, false, cond, List, [], ◌∷◌, ◌++◌, length, Some, None, Option, ◌==◌, slice_index_or}
+use Rattle.std.specs.Prelude.{ℕ, zero, suc, ◌+◌, true, false, cond, List, [], ◌∷◌, ◌++◌, length, Some, None, Option, ◌==◌, slice_index_or}
 use Rattle.reader.specs.Tokens.{same}
 use Rattle.rules.specs.Programs as rules
 use Rattle.rules.specs.Programs.{Table, elem}

@@ -1,3 +1,4 @@
 // The cleared program: what the last stages of clearing leave, and what is true of it.
+#![tactic(auto)]
 
 pub mod theorems;

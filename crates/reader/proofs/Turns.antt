@@ -4,7 +4,6 @@ use Rattle.std.specs.List.{AllByRecursion as All}
 use Rattle.std.proofs.lemmas.Bool.{le-leb}
 use Rattle.std.proofs.ByRecursion.{All-push}
 use Rattle.std.proofs.lemmas.List.{drop-drop, drop_at, length_push}
-use Rattle.reader.specs.declared.classes.Start.TheVariants.{Number}
 use Rattle.std.specs.declared.alloc.Global.{Global}
 use Rattle.reader.specs.declared.fault.Error.{Error}
 use Rattle.reader.specs.declared.fault.Error.TheVariants.{Refused}

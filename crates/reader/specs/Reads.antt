@@ -37,7 +37,7 @@ use Rattle.reader.specs.declared.token.Tag.TheVariants.{
   Proc,
   Main,
 }
-use Rattle.reader.specs.Tokens.{First, space, nothing, lexeme, Class, finish, same, blank, letter, digit, letter_or_digit, run, first, up_to, word_class}
+use Rattle.reader.specs.Tokens.{First, space, nothing, lexeme, finish, same, blank, letter, digit, letter_or_digit, run, first, up_to, word_class}
 use Rattle.reader.specs.Views.{spelled, lexeme_of}
 
 -- the signs of one byte that begin no longer one

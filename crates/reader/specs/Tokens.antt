@@ -1,5 +1,5 @@
 -- The first stage of clearing: bytes to tokens.
-use Rattle.std.specs.Prelude.{ℕ, zero, suc, pred, Bool, true, false, cond, not, ◌&&◌, ◌||◌, List, [], ◌∷◌, length, Ok, codes, ◌==◌, nat_le}
+use Rattle.std.specs.Prelude.{ℕ, zero, suc, pred, Bool, true, false, cond, ◌&&◌, ◌||◌, List, [], ◌∷◌, length, Ok, codes, ◌==◌, nat_le}
 use Rattle.reader.specs.declared.fault.Cause.TheVariants.{TextTooLong, NoToken}
 use Rattle.reader.specs.Faults.{Answer, ◌>>=◌, refuse}
 

@@ -1,4 +1,5 @@
 // The first stage of clearing: a text's bytes become tokens.
+#![tactic(auto)]
 
 mod classes;
 pub mod fault;

@@ -57,7 +57,7 @@ fn one_by_one(rt: HostRuntime) -> Result<(), Fail> {
     assert_eq!(rt; (word.tag, word.at, word.len), (Tag::While, 1, 5));
     let name = reader.next()?;
     assert_eq!(rt; (name.tag, name.at, name.len), (Tag::Name, 7, 2));
-    assert_eq!(rt; reader.part(&name), b"x1");
+    assert_eq!(rt; reader.part(&name), b"x1".as_slice());
     let sign = reader.next()?;
     assert_eq!(rt; (sign.tag, sign.at, sign.len), (Tag::Equals, 9, 2));
     assert_eq!(rt; reader.next()?.tag, Tag::Number);

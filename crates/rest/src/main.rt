@@ -1,5 +1,7 @@
 // Reads a text from standard input and prints what the first stages make of it: the refusal, or each
 // token, then the text's literals as the words of a tape, summed in both number kinds beside a counter.
+#![tactic(auto)]
+
 use anyhow::anyhow;
 use banks::bank::Bank;
 use banks::counter::Counter;

@@ -1,5 +1,5 @@
 -- What a statement's act says of the statement.
-use Rattle.std.proofs.Common.{◌≡◌, ℕ, zero, suc, ◌<◌, ◌≤◌, Bool, true, false, cond, not, ◌&&◌, ◌||◌, T, eqb, ◌≢◌, ◌⊎◌, List, [], ◌∷◌, sym, refl, ap, ◌∙◌, subst, ap₂, inl, inr, arith, eqb→eq}
+use Rattle.std.proofs.Common.{◌≡◌, ℕ, Bool, true, false, cond, T, eqb, ◌⊎◌, List, [], ◌∷◌, sym, refl, ap, ap₂, inl, inr, eqb→eq}
 use mathlib.Core.Path.{fun_ext}
 use mathlib.Core.Option.{Option, some, none, map, map-eq-some_iff}
 use Rattle.numbers.specs.Kinds.{Meaning}
@@ -8,7 +8,7 @@ use Rattle.rules.specs.Programs.{Table, Expr, own, word, plus, minus, times, bel
 use Rattle.rules.specs.Soundness.{Reads, Copied, Touches, Takes, Leads}
 use Rattle.rules.specs.Steps.{Act, stay, pass, fork, raise, halt, act, taking, copying}
 use Rattle.rules.specs.Values.{value}
-use Rattle.lemmas.proofs.Tests.{cond_some, some_none, look}
+use Rattle.lemmas.proofs.Tests.{cond_some, some_none}
 
 -- ---- an act keeps to what its statement names
 

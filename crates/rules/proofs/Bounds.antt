@@ -1,5 +1,5 @@
 -- Tests of all numbers, or of some number, below a bound.
-use Rattle.std.proofs.Common.{◌≡◌, ℕ, zero, suc, ◌<◌, ◌≤◌, Bool, true, false, not, ◌&&◌, ◌||◌, T, ◌≢◌, ◌⊎◌, sym, refl, ap, ◌∙◌, subst, inl, inr, arith}
+use Rattle.std.proofs.Common.{ℕ, zero, suc, ◌<◌, Bool, true, false, not, ◌||◌, T, sym, subst, inl, inr, arith}
 use Rattle.rules.specs.Moves.{any_below}
 use Rattle.rules.specs.Tests.{all_below}
 use Rattle.lemmas.proofs.Tests.{T_and, and_T, T_or, or_l, or_r, same?}

@@ -1,28 +1,20 @@
 -- A permitted move keeps the tree: who is not idle is a branch of the par where its parent stands parted.
-use Rattle.std.proofs.Common.{◌≡◌, ℕ, zero, suc, ◌<◌, ◌≤◌, min, Bool, true, false, cond, not, ◌&&◌, ◌||◌, T, eqb, ◌≢◌, ◌⊎◌, List, [], ◌∷◌, sym, refl, ap, ◌∙◌, subst, ap₂, inl, inr, arith, eqb→eq, T_not}
-use mathlib.Core.Option.{Option, some, none, get_or, map}
-use native.Mathlib.Decide.{dec_le}
+use Rattle.std.proofs.Common.{◌≡◌, ℕ, ◌<◌, Bool, true, false, cond, not, ◌&&◌, T, eqb, ◌≢◌, sym, refl, ap, ◌∙◌, subst, ap₂, inl, inr, arith, eqb→eq, T_not}
+use mathlib.Core.Option.{Option, some, none, get_or}
 use lib.Dec.{eqb_refl}
 use Rattle.numbers.specs.Kinds.{Meaning}
-use Rattle.rules.specs.Effects.{Effect, MarkChange, keep, lower_to, reset, changed}
-use Rattle.rules.specs.Invariants.{Wf, Stands}
-use Rattle.rules.specs.Moves.{effect, made, observed, runs_at, parts_at, closing, after_close}
+use Rattle.rules.specs.Invariants.{Wf}
+use Rattle.rules.specs.Moves.{effect, made, closing}
 use Rattle.rules.specs.Permissions.{Permitted}
-use Rattle.rules.specs.Programs.{Table, elem, Stm, par, throw, awaits, Copies}
-use Rattle.rules.specs.Readiness.{Waits}
-use Rattle.rules.specs.Soundness.{Sound, Catches, Leads}
-use Rattle.rules.specs.States.{State, Local, idle, running, parted, finished, poisoned, live, busy, is_parted, is_idle, Mark, lesser, Move, step, close, meet, poison, powered}
+use Rattle.rules.specs.Programs.{Table, elem}
+use Rattle.rules.specs.Soundness.{Sound}
+use Rattle.rules.specs.States.{State, Local, idle, running, parted, finished, poisoned, busy, is_parted, is_idle, Move, step, close, meet, poison}
 use Rattle.rules.specs.Steps.{doing, Act, stay, pass, fork, raise, halt, act_at}
-use Rattle.rules.specs.Safety.{Kept, AtPower}
-use Rattle.rules.specs.Trees.{nonzero, Child, Within}
-use Rattle.lemmas.proofs.Tests.{T_and, and_T, T_at, T_dec, T_false, T_true, differ, look, some_none, cond_some, cond_else, eq_eqb}
-use Rattle.rules.proofs.Locals.{busy_live, live_some, running_inj}
+use Rattle.rules.specs.Trees.{nonzero, Child}
+use Rattle.lemmas.proofs.Tests.{and_T, T_dec, T_false, T_true, differ, look, some_none, cond_some, cond_else, eq_eqb}
+use Rattle.rules.proofs.Locals.{busy_live, live_some}
 use Rattle.rules.proofs.Acts.{Fits}
-use Rattle.rules.proofs.Readiness.{ready_running, ready_down}
-use Rattle.rules.proofs.Places.{WritesPlace, writes, step_fits, run_place, parted_place, parted_par, observed_inv}
-use Rattle.rules.proofs.Above.{above_busy}
-use Rattle.rules.proofs.Cells.{awaits_next}
-use Rattle.rules.proofs.Marks.{Marked, step_marks}
+use Rattle.rules.proofs.Places.{WritesPlace, writes, step_fits, run_place}
 use Rattle.rules.proofs.Stable.{same_at, same_move?}
 
 -- the children of a place that closes are idle

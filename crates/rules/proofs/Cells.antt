@@ -1,23 +1,20 @@
 -- Which cells and ports a move writes and reads, and that two different permitted moves do not conflict there.
-use Rattle.std.proofs.Common.{◌≡◌, ℕ, zero, suc, ◌<◌, ◌≤◌, Bool, true, false, cond, not, ◌&&◌, ◌||◌, T, eqb, ◌≢◌, ◌⊎◌, List, [], ◌∷◌, sym, refl, ap, ◌∙◌, subst, inl, inr, arith, eqb→eq}
-use mathlib.Core.Option.{Option, some, none, map, map-eq-some_iff}
+use Rattle.std.proofs.Common.{◌≡◌, ℕ, T, ◌≢◌, ◌⊎◌, sym, refl, ap, ◌∙◌, subst, inl, inr, arith, eqb→eq}
+use mathlib.Core.Option.{Option, some, none}
 use Rattle.numbers.specs.Kinds.{Meaning}
-use Rattle.rules.specs.Effects.{Effect, MarkChange, keep, lower_to, reset}
 use Rattle.rules.specs.Invariants.{Wf}
-use Rattle.rules.specs.Moves.{effect, observed, runs_at, parts_at, owns, owns_at, any_below}
+use Rattle.rules.specs.Moves.{effect, observed, runs_at, owns, owns_at, any_below}
 use Rattle.rules.specs.Permissions.{Permitted}
 use Rattle.rules.specs.Programs.{Table, awaits, Stm, end, var, set, know, next, call, test, try, take, par, goto, throw}
-use Rattle.rules.specs.Readiness.{counts_child, KnowingChild, Waits, Ready, waits, parts, Counted, counted}
-use Rattle.rules.specs.Soundness.{Sound, Beside, Touches, Takes}
-use Rattle.rules.specs.States.{State, Local, idle, running, parted, finished, poisoned, live, busy, is_parted, is_idle, Move, step, close, meet, poison}
-use Rattle.rules.specs.Steps.{Act, stay, pass, fork, raise, halt, act, act_at, act_mark, act_cell, act_pop, doing}
-use Rattle.rules.specs.Trees.{Climb, here, more, nonzero, Child, Within, within, climbs}
-use Rattle.lemmas.proofs.Tests.{T_and, T_or, T_at, T_dec, T_false, T_true, same?, differ, cond_some, cond_else, some_none, look, pair_eq, eq_eqb}
-use Rattle.rules.proofs.Locals.{parted_inj, is_parted_lem, busy_live, live_some}
-use Rattle.rules.proofs.Tree.{climbs→, part_ways}
-use Rattle.rules.proofs.Readiness.{same_next, counts_in, ready_running, ready_down}
+use Rattle.rules.specs.Readiness.{Waits, Counted}
+use Rattle.rules.specs.Soundness.{Sound, Touches, Takes}
+use Rattle.rules.specs.States.{State, Local, running, live, Move, step, close, meet, poison}
+use Rattle.rules.specs.Steps.{Act, stay, pass, fork, raise, halt, act_cell, act_pop, doing}
+use Rattle.rules.specs.Trees.{here}
+use Rattle.lemmas.proofs.Tests.{same?, cond_some, some_none, pair_eq}
+use Rattle.rules.proofs.Readiness.{same_next, ready_running, ready_down}
 use Rattle.rules.proofs.Acts.{Fits}
-use Rattle.rules.proofs.Places.{WritesPlace, ReadsPlace, places_disjoint, run_place, step_fits, observed_inv, runs_observed}
+use Rattle.rules.proofs.Places.{places_disjoint, run_place, step_fits, runs_observed}
 use Rattle.rules.proofs.Bounds.{any_out}
 use Rattle.rules.proofs.Above.{beside, knows_counted}
 

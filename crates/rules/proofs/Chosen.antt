@@ -1,6 +1,6 @@
 -- A run over choices is a run of permitted moves.
-use Rattle.std.proofs.Common.{◌≡◌, ℕ, zero, suc, ◌+◌, ◌%◌, ◌<◌, ◌≤◌, Bool, true, false, cond, T, eqb, ltb, ◌⊎◌, List, [], ◌∷◌, length, sym, refl, ap, ◌∙◌, subst, inl, inr, mod-lt, add-one, arith, ltb→lt, nltb→le}
-use mathlib.Core.Option.{Option, some, none}
+use Rattle.std.proofs.Common.{◌≡◌, ℕ, zero, suc, ◌+◌, ◌%◌, ◌<◌, ◌≤◌, Bool, true, false, cond, T, eqb, ltb, List, [], ◌∷◌, length, sym, refl, ap, subst, inl, inr, mod-lt, add-one, arith, ltb→lt, nltb→le}
+use mathlib.Core.Option.{some}
 use lib.Dec.{not_T}
 use Rattle.numbers.specs.Kinds.{Meaning}
 use Rattle.rules.specs.declared.answers.Stop.{Stop}
@@ -16,7 +16,7 @@ use Rattle.rules.specs.Listings.{listing, nth, at_rest}
 use Rattle.rules.specs.Answers.{limit}
 use Rattle.rules.specs.Choices.{Ran, one_more, stopped, chosen, made_if, run}
 use Rattle.rules.specs.GrantLaws.{StopsAs, ChoicesRun, ChoicesStop, ChoicesAlike}
-use Rattle.lemmas.proofs.Tests.{T_dec, look}
+use Rattle.lemmas.proofs.Tests.{T_dec}
 use Rattle.rules.proofs.Invariant.{kept}
 use Rattle.rules.proofs.Listed.{listing_tells_lem, rest_tells}
 use Rattle.rules.proofs.Runs.{one_end}

@@ -1,9 +1,9 @@
 -- Effects with footprints apart commute.
-use Rattle.std.proofs.Common.{◌≡◌, ℕ, zero, suc, ◌+◌, min, Bool, true, false, cond, ◌⊎◌, List, [], ◌∷◌, sym, refl, ap, ◌∙◌, inl, inr, arith}
+use Rattle.std.proofs.Common.{◌≡◌, ℕ, ◌+◌, Bool, true, false, cond, ◌⊎◌, List, refl, ap, inl, inr, arith}
 use mathlib.Core.Path.{fun_ext}
 use mathlib.Core.Option.{Option, some, none, get_or}
 use Rattle.rules.specs.Effects.{MarkChange, keep, lower_to, reset, changed, later, Effect, apply}
-use Rattle.rules.specs.States.{Local, Mark, lesser, State}
+use Rattle.rules.specs.States.{Mark, lesser, State}
 
 abbrev pub Compatible : MarkChange → MarkChange → Type 0
 Compatible keep b = Unit {0}

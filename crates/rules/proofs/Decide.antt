@@ -1,22 +1,22 @@
 -- The tests tell what is permitted; and readiness in one step.
-use Rattle.std.proofs.Common.{◌≡◌, ℕ, zero, suc, ◌+◌, ◌<◌, ◌≤◌, Bool, true, false, cond, not, ◌&&◌, ◌||◌, T, eqb, ◌≢◌, ◌⊎◌, ◌↔◌, sym, refl, ap, ◌∙◌, subst, inl, inr, arith, eqb→eq, T_not}
+use Rattle.std.proofs.Common.{◌≡◌, ℕ, zero, suc, ◌+◌, ◌<◌, ◌≤◌, not, ◌&&◌, ◌||◌, T, eqb, sym, refl, ap, subst, inl, inr, arith, eqb→eq, T_not}
 use mathlib.Core.Option.{Option, some, none}
 use lib.Dec.{not_T}
 use Rattle.rules.specs.Invariants.{Wf}
 use Rattle.rules.specs.Moves.{any_below}
 use Rattle.rules.specs.Permissions.{Permitted}
 use Rattle.rules.specs.Programs.{Table, awaits}
-use Rattle.rules.specs.Readiness.{counts_child, KnowingChild, Waits, Ready, waits, parts, Spoiled, itself, no_child_knows, child_spoiled, Counted}
+use Rattle.rules.specs.Readiness.{counts_child, KnowingChild, Ready, waits, parts, Spoiled, itself, no_child_knows, child_spoiled, Counted}
 use Rattle.rules.specs.Soundness.{Sound}
-use Rattle.rules.specs.States.{State, Local, idle, running, parted, finished, poisoned, live, busy, is_parted, is_idle, Mark, Move, step, close, meet, poison}
-use Rattle.rules.specs.Trees.{Climb, here, more, nonzero, Child}
+use Rattle.rules.specs.States.{State, Local, idle, running, parted, finished, poisoned, live, busy, is_idle, Mark, Move, step, close, meet, poison}
+use Rattle.rules.specs.Trees.{here, more, nonzero, Child}
 use Rattle.rules.specs.Tests.{all_below, child, knowing_child, for_home, no_next, ready_at, ready, is_zero, spoiled_at, spoiled, steps_at, closes_at, permitted}
 use Rattle.rules.specs.Decisions.{WaitsOrParts, ReadyOrSpoiled, ReadyTells, SpoiledTells, CountedTells, PermittedTells, CountedForm}
-use Rattle.lemmas.proofs.Tests.{T_and, and_T, T_or, or_l, or_r, T_dec, T_at, same?, eq_eqb, differ, some_none}
+use Rattle.lemmas.proofs.Tests.{T_and, and_T, T_or, or_l, or_r, eq_eqb}
 use Rattle.rules.proofs.Locals.{busy_live, live_some}
 use Rattle.rules.proofs.Bounds.{any_out, any_in, all_out, all_in, imp_out, imp_in}
 use Rattle.rules.proofs.Tree.{climbs→, →climbs}
-use Rattle.rules.proofs.Readiness.{counts_out, spoiled_ready, ready_busy, ready_down, counted_child, spoiled_knows}
+use Rattle.rules.proofs.Readiness.{counts_out, spoiled_ready, ready_busy, ready_down, counted_child}
 
 home_out : (o : Option (ℕ × ℕ)) (h : ℕ) → T (for_home o h) → (c : ℕ) × (o ≡ some (c, h))
 home_out none h e = absurd e

@@ -1,23 +1,20 @@
 -- What the rules do not say is not so.
-use Rattle.std.proofs.Common.{◌≡◌, ℕ, zero, suc, Bool, true, false, cond, ◌&&◌, T, eqb, ◌≢◌, ◌⊎◌, List, [], ◌∷◌, sym, refl, ap, ◌∙◌, subst, ap₂, inl, inr, arith, eqb→eq}
-use mathlib.Core.Option.{Option, some, none, get_or, map, map-eq-some_iff}
+use Rattle.std.proofs.Common.{◌≡◌, ℕ, zero, suc, false, cond, ◌&&◌, eqb, ◌≢◌, sym, refl, ap, ◌∙◌, inl, inr, arith, eqb→eq}
+use mathlib.Core.Option.{some, none, get_or, map-eq-some_iff}
 use lib.Dec.{eqb_refl}
 use Rattle.numbers.specs.Kinds.{Meaning}
-use Rattle.rules.specs.Programs.{Stm, throw, Table, elem}
+use Rattle.rules.specs.Programs.{throw, Table, elem}
 use Rattle.rules.specs.Trees.{nonzero, Within, within}
-use Rattle.rules.specs.Soundness.{Sound}
-use Rattle.rules.specs.States.{State, Local, idle, running, parted, finished, poisoned, Mark, lesser, Move, step, close, meet, poison}
-use Rattle.rules.specs.Effects.{MarkChange, keep, lower_to, changed, only}
+use Rattle.rules.specs.States.{State, idle, running, parted, finished, poisoned, Mark, Move, step, close, meet, poison}
+use Rattle.rules.specs.Effects.{keep, lower_to, changed}
 use Rattle.rules.specs.Steps.{Act, stay, pass, fork, raise, halt, act, act_at, act_mark, doing}
 use Rattle.rules.specs.Moves.{effect, made, closing, after_close, runs_at, observed}
-use Rattle.rules.specs.Readiness.{Waits}
 use Rattle.rules.specs.Permissions.{Permitted}
-use Rattle.rules.specs.Invariants.{Wf}
 use Rattle.rules.specs.Denials.{Throws, PoisonedBy, ThrowStaysInside, LesserWins, PoisonedOnly}
 use Rattle.lemmas.proofs.Tests.{T_and, T_true, T_false, cond_some, cond_else, some_none, look}
 use Rattle.rules.proofs.Tree.{climbs→}
 use Rattle.rules.proofs.Acts.{Fits}
-use Rattle.rules.proofs.Places.{WritesPlace, writes, step_fits}
+use Rattle.rules.proofs.Places.{writes, step_fits}
 
 -- what a throw does
 pub throwing : (k : Meaning) (t : Table) (s : State) (p g j : ℕ) → Throws t s p g j → doing k t s (s.at p) ≡ raise g j

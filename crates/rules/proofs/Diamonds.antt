@@ -1,18 +1,17 @@
 -- Two different permitted moves commute.
-use Rattle.std.proofs.Common.{◌≡◌, ℕ, Bool, true, false, cond, T, eqb, ◌≢◌, ◌⊎◌, sym, refl, ap, ◌∙◌, subst, ap₂, inl, inr, eqb→eq}
-use mathlib.Core.Option.{Option, some, none}
+use Rattle.std.proofs.Common.{◌≡◌, ℕ, cond, eqb, ◌≢◌, ◌⊎◌, sym, ap, ◌∙◌, subst, inl, inr, eqb→eq}
 use Rattle.numbers.specs.Kinds.{Meaning}
-use Rattle.rules.specs.Effects.{Effect, apply, MarkChange, keep, lower_to, reset}
+use Rattle.rules.specs.Effects.{apply, MarkChange, keep, lower_to, reset}
 use Rattle.rules.specs.Invariants.{Wf}
 use Rattle.rules.specs.Moves.{effect, made}
 use Rattle.rules.specs.Permissions.{Permitted}
 use Rattle.rules.specs.Programs.{Table}
 use Rattle.rules.specs.Soundness.{Sound}
-use Rattle.rules.specs.States.{State, Local, Move, step, close, meet, poison}
+use Rattle.rules.specs.States.{State, Move, step, close, meet, poison}
 use Rattle.rules.specs.Confluence.{Diamond}
 use Rattle.lemmas.proofs.Tests.{T_dec, T_false, look, is_none}
 use Rattle.rules.proofs.Commute.{Compatible, Apart, commute}
-use Rattle.rules.proofs.Places.{WritesPlace, ReadsPlace, writes→reads, places_disjoint, writes}
+use Rattle.rules.proofs.Places.{writes→reads, places_disjoint, writes}
 use Rattle.rules.proofs.Cells.{cell_writes→reads, cells_disjoint, cell_writes, ports_disjoint, pops}
 use Rattle.rules.proofs.Marks.{Lowering, step_lowering, poison_lowering, unmarked}
 use Rattle.rules.proofs.Stable.{stable}

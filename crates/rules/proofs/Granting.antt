@@ -4,15 +4,13 @@ use mathlib.Core.Option.{Option, some, none}
 use lib.Dec.{not_T}
 use Rattle.rules.specs.declared.answers.Refusal.{Refusal}
 use Rattle.rules.specs.declared.answers.Refusal.TheVariants.{NoSuch, Limit, NotPermitted}
-use Rattle.numbers.specs.Kinds.{Meaning}
-use Rattle.rules.specs.Programs.{Table}
 use Rattle.rules.specs.States.{State, Move}
 use Rattle.rules.specs.Permissions.{Permitted}
 use Rattle.rules.specs.Moves.{made}
 use Rattle.rules.specs.Tests.{permitted}
-use Rattle.rules.specs.Answers.{limit, answer, granted}
+use Rattle.rules.specs.Answers.{limit, answer}
 use Rattle.rules.specs.GrantLaws.{GrantedExactly, GrantedMakes, NoSuchExactly, LimitExactly, NotPermittedExactly, RefusedLeaves}
-use Rattle.lemmas.proofs.Tests.{T_true, T_false, some_none}
+use Rattle.lemmas.proofs.Tests.{T_true}
 use Rattle.rules.proofs.Decide.{permitted_tells}
 
 abbrev Answer : Type 0

@@ -1,17 +1,13 @@
 -- The listing holds exactly the permitted moves that exist, in the order of names.
-use Rattle.std.proofs.Common.{◌≡◌, ℕ, zero, suc, ◌<◌, Bool, true, false, cond, not, ◌&&◌, T, eqb, ◌⊎◌, List, [], ◌∷◌, ◌++◌, length, sym, refl, ap, ◌∙◌, subst, inl, inr, arith, eqb→eq}
-use mathlib.Core.Option.{Option, some, none}
+use Rattle.std.proofs.Common.{◌≡◌, ℕ, ◌<◌, not, T, eqb, List, ◌++◌, length, sym, refl, subst, inl, inr, arith, eqb→eq}
 use native.Mathlib.Decide.{dec_lt}
-use Rattle.rules.specs.Programs.{Table, awaits}
-use Rattle.rules.specs.Soundness.{Sound, HomesInside}
-use Rattle.rules.specs.States.{State, Local, running, parted, is_idle, Move, step, close, meet, poison}
+use Rattle.rules.specs.Programs.{Table}
+use Rattle.rules.specs.States.{State, Local, is_idle, Move, step, close, meet, poison}
 use Rattle.rules.specs.Readiness.{Ready, waits, parts, Waits}
-use Rattle.rules.specs.Permissions.{Permitted, Rests}
-use Rattle.rules.specs.Invariants.{Wf}
-use Rattle.rules.specs.Tests.{permitted, ready}
+use Rattle.rules.specs.Tests.{permitted}
 use Rattle.rules.specs.Names.{name_of, Exists, Precedes}
-use Rattle.rules.specs.Listings.{nth, each, if_permitted, steps_of, closes_of, meets_of, poisons_of, listing, at_rest}
-use Rattle.rules.specs.ListingLaws.{Listed, ListingTells, ListingOrdered, ListingOnce, PermittedExists, RestTells}
+use Rattle.rules.specs.Listings.{each, if_permitted, steps_of, closes_of, meets_of, poisons_of, listing}
+use Rattle.rules.specs.ListingLaws.{ListingTells, ListingOrdered, ListingOnce, PermittedExists, RestTells}
 use Rattle.lemmas.proofs.Tests.{T_and, eq_eqb}
 use Rattle.rules.proofs.Locals.{busy_live, live_some}
 use Rattle.rules.proofs.Readiness.{ready_busy}

@@ -1,6 +1,6 @@
 -- Lists of moves: membership, and the order of names.
-use Rattle.std.proofs.Common.{◌≡◌, ℕ, zero, suc, ◌<◌, Bool, true, false, cond, T, ◌⊎◌, List, [], ◌∷◌, ◌++◌, length, sym, refl, ap, ◌∙◌, subst, inl, inr, arith}
-use mathlib.Core.Option.{Option, some, none}
+use Rattle.std.proofs.Common.{◌≡◌, ℕ, zero, suc, ◌<◌, Bool, true, false, cond, T, ◌⊎◌, List, [], ◌∷◌, ◌++◌, length, sym, refl, ap, subst, inl, inr, arith}
+use mathlib.Core.Option.{some, none}
 use Rattle.rules.specs.States.{Move}
 use Rattle.rules.specs.Names.{name_of, Precedes}
 use Rattle.rules.specs.Listings.{nth, each}

@@ -1,8 +1,8 @@
 -- Permission hangs on local states and marks alone.
-use Rattle.std.proofs.Common.{◌≡◌, ℕ, T, sym, refl, ap, ◌∙◌, subst}
+use Rattle.std.proofs.Common.{◌≡◌, ℕ, T, sym, ap, ◌∙◌, subst}
 use Rattle.rules.specs.Programs.{Table}
 use Rattle.rules.specs.States.{State, Local, live, busy, Move, step, close, meet, poison}
-use Rattle.rules.specs.Readiness.{KnowingChild, Ready, waits, parts, Spoiled, itself, no_child_knows, child_spoiled}
+use Rattle.rules.specs.Readiness.{Ready, waits, parts, Spoiled, itself, no_child_knows, child_spoiled}
 use Rattle.rules.specs.Permissions.{Permitted}
 use Rattle.rules.specs.GrantLaws.{PermissionLooks}
 

@@ -1,5 +1,5 @@
 -- A kind and two numbers name a move exactly if it exists and this is its name.
-use Rattle.std.proofs.Common.{◌≡◌, ℕ, ◌<◌, Bool, true, false, cond, ◌&&◌, T, eqb, ltb, ◌⊎◌, sym, refl, ap, ◌∙◌, subst, inl, inr, eqb→eq, ltb→lt, lt→ltb}
+use Rattle.std.proofs.Common.{◌≡◌, ℕ, ◌<◌, Bool, true, false, cond, ◌&&◌, T, eqb, ltb, ◌⊎◌, sym, refl, ap, subst, inl, inr, eqb→eq, ltb→lt, lt→ltb}
 use mathlib.Core.Option.{Option, some, none}
 use Rattle.rules.specs.Programs.{Table}
 use Rattle.rules.specs.States.{Move, step, close, meet, poison}

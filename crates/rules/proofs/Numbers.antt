@@ -1,37 +1,12 @@
 -- Every cell holds a number of the kind.
-use Rattle.std.proofs.Common.{◌≡◌, ℕ, Bool, true, false, cond, T, eqb, List, [], ◌∷◌, sym, refl, ap, ◌∙◌, subst}
+use Rattle.std.proofs.Common.{◌≡◌, ℕ, Bool, true, false, cond, eqb, List, [], ◌∷◌, refl}
 use mathlib.Core.Option.{Option, some, none, get_or, map}
 use Rattle.numbers.specs.Kinds.{Meaning, Laws}
-use Rattle.rules.specs.Programs.{
-  Expr,
-  own,
-  word,
-  plus,
-  minus,
-  times,
-  below,
-  same,
-  Copies,
-  Stm,
-  end,
-  var,
-  set,
-  know,
-  next,
-  call,
-  test,
-  try,
-  take,
-  par,
-  goto,
-  throw,
-  Table,
-  pick,
-}
+use Rattle.rules.specs.Programs.{Expr, own, word, plus, minus, times, below, same, Stm, end, var, set, know, next, call, test, try, take, par, goto, throw, Table, pick}
 use Rattle.rules.specs.Values.{value}
 use Rattle.rules.specs.States.{State, Local, idle, running, parted, finished, poisoned, Move, step, close, meet, poison}
 use Rattle.rules.specs.Effects.{only, nothing}
-use Rattle.rules.specs.Steps.{Act, stay, pass, fork, raise, halt, act, act_cell, taking, copying, doing}
+use Rattle.rules.specs.Steps.{pass, act, act_cell, taking, doing}
 use Rattle.rules.specs.Moves.{effect, any_below, owns_at, runs_at, observed}
 use Rattle.rules.specs.Numbers.{LiteralsIn, LiteralsOf, Literals, Numbers}
 use Rattle.rules.specs.Safety.{NumbersAtPower, NumbersKept}

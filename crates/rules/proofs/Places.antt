@@ -1,21 +1,20 @@
 -- Which places a move writes and reads, and that two different permitted moves do not conflict there.
-use Rattle.std.proofs.Common.{◌≡◌, ℕ, zero, suc, ◌<◌, ◌≤◌, Bool, true, false, cond, not, ◌&&◌, ◌||◌, T, eqb, ◌≢◌, ◌⊎◌, List, [], ◌∷◌, sym, refl, ap, ◌∙◌, subst, inl, inr, arith, eqb→eq}
-use mathlib.Core.Option.{Option, some, none, map, map-eq-some_iff}
+use Rattle.std.proofs.Common.{◌≡◌, ℕ, cond, ◌&&◌, T, eqb, ◌≢◌, ◌⊎◌, List, sym, refl, ap, ◌∙◌, subst, inl, inr, eqb→eq}
+use mathlib.Core.Option.{Option, some, none, map-eq-some_iff}
 use Rattle.numbers.specs.Kinds.{Meaning}
-use Rattle.rules.specs.Effects.{Effect, only}
 use Rattle.rules.specs.Invariants.{Wf, Stands}
 use Rattle.rules.specs.Moves.{effect, observed, runs_at}
 use Rattle.rules.specs.Permissions.{Permitted}
 use Rattle.rules.specs.Programs.{Table, awaits, elem, par, Copies}
-use Rattle.rules.specs.Readiness.{counts_child, KnowingChild, Waits, Ready, waits, parts, Spoiled, itself, no_child_knows, child_spoiled, Counted, counted}
+use Rattle.rules.specs.Readiness.{counts_child, KnowingChild, Waits, Ready, waits, Counted, counted}
 use Rattle.rules.specs.Soundness.{Sound}
-use Rattle.rules.specs.States.{State, Local, idle, running, parted, finished, poisoned, live, busy, is_parted, is_idle, Move, step, close, meet, poison}
+use Rattle.rules.specs.States.{State, Local, idle, running, parted, finished, poisoned, live, busy, is_parted, Move, step, close, meet, poison}
 use Rattle.rules.specs.Steps.{Act, stay, pass, fork, raise, halt, act, act_at, doing}
-use Rattle.rules.specs.Trees.{Climb, here, more, nonzero, Child}
-use Rattle.lemmas.proofs.Tests.{T_and, and_T, T_at, differ, cond_some, cond_else, some_none, look, pair_eq}
-use Rattle.rules.proofs.Locals.{is_parted_lem, busy_live, live_some}
-use Rattle.rules.proofs.Tree.{climbs→, →climbs, compare_ways}
-use Rattle.rules.proofs.Readiness.{same_next, counts_out, counts_in, counted_child, ready_busy, ready_parted, ready_running, ready_down, spoiled_knows, spoiled_ready}
+use Rattle.rules.specs.Trees.{here, more, nonzero, Child}
+use Rattle.lemmas.proofs.Tests.{T_and, differ, cond_some, cond_else, some_none}
+use Rattle.rules.proofs.Locals.{busy_live, live_some}
+use Rattle.rules.proofs.Tree.{climbs→, compare_ways}
+use Rattle.rules.proofs.Readiness.{same_next, counts_out, counted_child, ready_busy, ready_parted, ready_running, ready_down, spoiled_knows, spoiled_ready}
 use Rattle.rules.proofs.Acts.{Fits, fits}
 
 abbrev pub Around : Table → ℕ → ℕ → Type 0

@@ -1,13 +1,12 @@
 -- What holds at power and is kept holds in every state that a board reaches.
-use Rattle.std.proofs.Common.{◌≡◌, ℕ, zero, suc, ◌+◌, List, sym, refl, ap, ◌∙◌, subst, arith}
+use Rattle.std.proofs.Common.{◌≡◌, ℕ, zero, suc, ◌+◌, sym, ap, subst, arith}
 use Rattle.numbers.specs.Kinds.{Meaning}
 use Rattle.rules.specs.Programs.{Table}
-use Rattle.rules.specs.Soundness.{Sound}
 use Rattle.rules.specs.States.{State, Move, powered}
 use Rattle.rules.specs.Permissions.{Permitted}
 use Rattle.rules.specs.Moves.{made}
 use Rattle.rules.specs.Invariants.{Wf}
-use Rattle.rules.specs.Runs.{Run, Reached}
+use Rattle.rules.specs.Runs.{Run}
 use Rattle.rules.specs.Safety.{ReachedWellFormed, ReachedNumbers, MovesCounted}
 use Rattle.rules.proofs.Invariant.{kept, at_power}
 use Rattle.rules.proofs.Numbers.{numbers_at_power, numbers_kept}

@@ -1,12 +1,12 @@
 -- What is ready, what is spoiled.
-use Rattle.std.proofs.Common.{◌≡◌, ℕ, zero, suc, ◌<◌, ◌≤◌, Bool, true, false, cond, not, ◌&&◌, ◌||◌, T, eqb, ◌≢◌, ◌⊎◌, sym, refl, ap, ◌∙◌, subst, inl, inr, eqb→eq}
-use mathlib.Core.Option.{Option, some, none}
+use Rattle.std.proofs.Common.{◌≡◌, ℕ, ◌&&◌, T, sym, refl, ap, ◌∙◌, subst}
+use mathlib.Core.Option.{some}
 use Rattle.rules.specs.Programs.{Table, awaits}
 use Rattle.rules.specs.Readiness.{counts_child, KnowingChild, Waits, Ready, waits, parts, Spoiled, itself, no_child_knows, child_spoiled, Counted}
-use Rattle.rules.specs.States.{State, Local, idle, running, parted, finished, poisoned, live, busy, is_parted, is_idle}
-use Rattle.rules.specs.Trees.{Climb, here, more, nonzero, Child}
+use Rattle.rules.specs.States.{State, Local, running, parted, live, busy, is_parted}
+use Rattle.rules.specs.Trees.{here, more, nonzero}
 use Rattle.lemmas.proofs.Tests.{T_and, and_T, T_at, differ, pair_eq}
-use Rattle.rules.proofs.Locals.{is_parted_lem, busy_live}
+use Rattle.rules.proofs.Locals.{is_parted_lem}
 
 -- a place stands before one next
 pub same_next : (t : Table) (s : State) (q x y c d h g : ℕ)

@@ -1,5 +1,5 @@
 -- Whole runs: the diamond carried over them.
-use Rattle.std.proofs.Common.{◌≡◌, ℕ, zero, suc, ◌+◌, ◌≢◌, ◌⊎◌, sym, refl, ap, ◌∙◌, subst, inl, inr, arith}
+use Rattle.std.proofs.Common.{◌≡◌, ℕ, zero, suc, ◌+◌, sym, refl, ap, ◌∙◌, subst, inl, inr, arith}
 use Rattle.numbers.specs.Kinds.{Meaning}
 use Rattle.rules.specs.Invariants.{Wf}
 use Rattle.rules.specs.Moves.{made}
@@ -8,7 +8,7 @@ use Rattle.rules.specs.Programs.{Table}
 use Rattle.rules.specs.Runs.{Run}
 use Rattle.rules.specs.Soundness.{Sound}
 use Rattle.rules.specs.States.{State, Move, powered}
-use Rattle.rules.specs.Confluence.{OneEnd, SameEnd, DiamondWhenReached, OneEndWhenReached, OneEndFromPower}
+use Rattle.rules.specs.Confluence.{OneEnd, DiamondWhenReached, OneEndWhenReached, OneEndFromPower}
 use Rattle.rules.proofs.Stable.{same_move?}
 use Rattle.rules.proofs.Diamonds.{diamond}
 use Rattle.rules.proofs.Invariant.{kept, at_power}

@@ -1,26 +1,25 @@
 -- After another permitted move, a move is permitted still and has the same effect.
-use Rattle.std.proofs.Common.{◌≡◌, ℕ, zero, suc, ◌<◌, ◌≤◌, min, Bool, true, false, cond, not, ◌&&◌, ◌||◌, T, eqb, ◌≢◌, ◌⊎◌, sym, refl, ap, ◌∙◌, subst, ap₂, inl, inr, le_refl, arith, eqb→eq}
+use Rattle.std.proofs.Common.{◌≡◌, ℕ, ◌<◌, Bool, true, false, cond, not, ◌&&◌, T, eqb, ◌≢◌, ◌⊎◌, sym, refl, ap, ◌∙◌, subst, ap₂, inl, inr, arith, eqb→eq}
 use mathlib.Core.Path.{fun_ext}
 use mathlib.Core.Option.{Option, some, none, get_or}
 use lib.Dec.{eqb_refl}
 use Rattle.numbers.specs.Kinds.{Meaning}
-use Rattle.rules.specs.Effects.{Effect, MarkChange, keep, lower_to, reset, changed, later}
+use Rattle.rules.specs.Effects.{MarkChange, keep, lower_to, reset, changed, later}
 use Rattle.rules.specs.Invariants.{Wf}
 use Rattle.rules.specs.Moves.{effect, made, close_effect, meet_effect, poison_effect, observed, closing}
 use Rattle.rules.specs.Permissions.{Permitted}
-use Rattle.rules.specs.Programs.{Table, awaits}
-use Rattle.rules.specs.Readiness.{counts_child, KnowingChild, Waits, Ready, waits, parts, Spoiled, itself, no_child_knows, child_spoiled, Counted, counted}
+use Rattle.rules.specs.Programs.{Table}
+use Rattle.rules.specs.Readiness.{counts_child, KnowingChild, Ready, waits, parts, Spoiled, itself, no_child_knows, child_spoiled, Counted, counted}
 use Rattle.rules.specs.Soundness.{Sound}
-use Rattle.rules.specs.States.{State, Local, idle, running, parted, finished, poisoned, live, busy, is_parted, is_idle, Mark, lesser, Move, step, close, meet, poison}
-use Rattle.rules.specs.Steps.{step_effect, act, doing}
-use Rattle.rules.specs.Trees.{Climb, here, more, nonzero, Child}
-use Rattle.lemmas.proofs.Tests.{T_and, T_at, T_same, T_false, T_true, differ, look, same?}
-use Rattle.rules.proofs.Locals.{busy_live, live_some}
+use Rattle.rules.specs.States.{State, Local, idle, running, parted, poisoned, live, busy, is_parted, is_idle, Mark, lesser, Move, step, close, meet, poison}
+use Rattle.rules.specs.Steps.{step_effect, doing}
+use Rattle.rules.specs.Trees.{here, more, nonzero, Child}
+use Rattle.lemmas.proofs.Tests.{T_at, T_same, T_false, T_true, differ, look, same?}
 use Rattle.rules.proofs.Tree.{climbs→, →climbs}
-use Rattle.rules.proofs.Readiness.{counts_out, counts_in, counted_child, ready_busy, ready_down, spoiled_knows}
+use Rattle.rules.proofs.Readiness.{counts_out, counts_in, counted_child, ready_busy}
 use Rattle.rules.proofs.Acts.{act_same}
-use Rattle.rules.proofs.Places.{WritesPlace, ReadsPlace, places_disjoint, writes, live_or_child, acting}
-use Rattle.rules.proofs.Cells.{WritesCell, ReadsCell, cells_disjoint, cell_writes, TakesPort, ports_disjoint, pops}
+use Rattle.rules.proofs.Places.{WritesPlace, places_disjoint, writes, live_or_child, acting}
+use Rattle.rules.proofs.Cells.{WritesCell, cells_disjoint, cell_writes, TakesPort, ports_disjoint, pops}
 use Rattle.rules.proofs.Marks.{Lowering, step_lowering, poison_lowering, unmarked}
 
 pub same_move? : (m n : Move) → (m ≡ n) ⊎ (m ≢ n)

@@ -1,21 +1,17 @@
 -- Whom a throw, a close, a meet and a poison change, and how.
-use Rattle.std.proofs.Common.{◌≡◌, ℕ, zero, suc, ◌<◌, ◌≤◌, Bool, true, false, cond, not, ◌&&◌, T, eqb, ◌≢◌, ◌⊎◌, sym, refl, ap, ◌∙◌, subst, inl, inr, arith, eqb→eq}
+use Rattle.std.proofs.Common.{◌≡◌, ℕ, cond, not, ◌&&◌, T, eqb, sym, refl, ap, ◌∙◌, subst, arith, eqb→eq}
 use mathlib.Core.Option.{Option, some, none, get_or, map}
 use lib.Dec.{eqb_refl}
-use Rattle.numbers.specs.Kinds.{Meaning}
 use Rattle.rules.specs.Programs.{Table, awaits}
 use Rattle.rules.specs.Soundness.{Sound}
-use Rattle.rules.specs.States.{State, Local, idle, running, parted, finished, poisoned, is_idle, Mark, lesser, step, close, meet, poison}
-use Rattle.rules.specs.Trees.{nonzero, Within, within, Child}
+use Rattle.rules.specs.States.{State, Local, idle, running, parted, finished, poisoned, is_idle, Mark, lesser, meet, poison}
+use Rattle.rules.specs.Trees.{nonzero, Within, within}
 use Rattle.rules.specs.Steps.{act_at, act_mark, raise}
-use Rattle.rules.specs.Readiness.{Waits, Counted, counted}
-use Rattle.rules.specs.Permissions.{Permitted}
-use Rattle.rules.specs.Effects.{MarkChange, keep, lower_to, reset, changed}
-use Rattle.rules.specs.Moves.{made, closing, after_close, observed, runs_at, parts_at, owns, owns_at, any_below}
-use Rattle.rules.specs.Invariants.{Wf}
+use Rattle.rules.specs.Readiness.{Counted, counted}
+use Rattle.rules.specs.Effects.{keep, lower_to, reset, changed}
+use Rattle.rules.specs.Moves.{closing, observed, runs_at, parts_at, owns, owns_at, any_below}
 use Rattle.rules.specs.EffectLaws.{CountedNext, MeetTells, PoisonTells, ThrowTells, CloseTells}
-use Rattle.rules.specs.Denials.{Throws}
-use Rattle.lemmas.proofs.Tests.{T_and, and_T, T_true, T_false, look}
+use Rattle.lemmas.proofs.Tests.{T_and, and_T, T_true, T_false}
 use Rattle.rules.proofs.Tree.{→climbs}
 use Rattle.rules.proofs.Branches.{closed_child}
 use Rattle.rules.proofs.Denied.{throwing, throw_stays_inside, lesser_wins}

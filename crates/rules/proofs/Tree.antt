@@ -1,5 +1,5 @@
 -- Ways up the tree of places: the relation and its test.
-use Rattle.std.proofs.Common.{◌≡◌, ℕ, zero, suc, ◌<◌, ◌≤◌, Bool, true, false, cond, not, ◌&&◌, ◌||◌, T, eqb, ◌≢◌, ◌⊎◌, sym, refl, ap, ◌∙◌, subst, inl, inr, arith, eqb→eq}
+use Rattle.std.proofs.Common.{◌≡◌, ℕ, zero, suc, ◌<◌, ◌≤◌, Bool, ◌&&◌, T, eqb, ◌≢◌, ◌⊎◌, sym, refl, ap, subst, inl, inr, arith, eqb→eq}
 use lib.Dec.{not_T}
 use Rattle.rules.specs.Programs.{Table}
 use Rattle.rules.specs.Soundness.{Sound}

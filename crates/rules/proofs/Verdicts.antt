@@ -1,17 +1,17 @@
 -- What the verdict tells.
-use Rattle.std.proofs.Common.{◌≡◌, ℕ, Bool, true, false, cond, T, eqb, ◌⊎◌, List, [], ◌∷◌, length, sym, refl, ap, ◌∙◌, subst, inl, inr, arith}
+use Rattle.std.proofs.Common.{◌≡◌, ℕ, Bool, true, false, cond, T, eqb, List, [], ◌∷◌, length, sym, refl, ap, ◌∙◌, subst, inl, inr, arith}
 use mathlib.Core.Option.{some}
 use Rattle.rules.specs.declared.answers.Verdict.{Verdict}
 use Rattle.rules.specs.declared.answers.Verdict.TheVariants.{Finished, Deadlock, Moving}
 use Rattle.rules.specs.Programs.{Table}
-use Rattle.rules.specs.Soundness.{Sound, HomesInside}
+use Rattle.rules.specs.Soundness.{Sound}
 use Rattle.rules.specs.States.{State, Local, idle, running, parted, finished, poisoned, busy, is_parted, Move, step, close, meet, poison}
-use Rattle.rules.specs.Permissions.{Permitted, Rests}
+use Rattle.rules.specs.Permissions.{Permitted}
 use Rattle.rules.specs.Invariants.{Wf}
 use Rattle.rules.specs.Listings.{listing, nth, at_rest}
-use Rattle.rules.specs.Answers.{is_finished, verdict}
+use Rattle.rules.specs.Answers.{is_finished}
 use Rattle.rules.specs.ListingLaws.{VerdictFinished, VerdictDeadlock, VerdictMoving, FinishedRests}
-use Rattle.lemmas.proofs.Tests.{differ, T_true, T_false, T_dec, T_at}
+use Rattle.lemmas.proofs.Tests.{differ, T_true, T_false}
 use Rattle.rules.proofs.Locals.{busy_live, live_some}
 use Rattle.rules.proofs.Tree.{root}
 use Rattle.rules.proofs.Above.{above}

@@ -1,5 +1,5 @@
 -- A run over choices: for each choice c the permitted move at index c modulo their number.
-use Rattle.std.specs.Prelude.{ℕ, ◌+◌, ◌%◌, Bool, cond, List, [], ◌∷◌, length, nat_lt}
+use Rattle.std.specs.Prelude.{ℕ, ◌+◌, ◌%◌, cond, List, [], ◌∷◌, length, nat_lt}
 use Rattle.std.proofs.Math.Option.{Option, some, none}
 use Rattle.numbers.specs.Kinds.{Meaning}
 use Rattle.rules.specs.declared.answers.Stop.{Stop}

@@ -1,7 +1,7 @@
 -- Boards that tell the rules from plausible other ones.
-use Rattle.std.specs.Prelude.{ℕ, List, [], ◌∷◌}
-use Rattle.rules.specs.declared.answers.Verdict.TheVariants.{Finished, Deadlock}
-use Rattle.rules.specs.Programs.{own, word, plus, end, var, set, know, next, try, par, throw}
+use Rattle.std.specs.Prelude.{[], ◌∷◌}
+use Rattle.rules.specs.declared.answers.Verdict.TheVariants.{Finished}
+use Rattle.rules.specs.Programs.{word, end, var, set, know, next, try, par, throw}
 use Rattle.rules.specs.Cases.{Case, program}
 
 -- main { var i; try { par { know i; throw T; } { i = 1; i = 2; }; } catch (T) { } }

@@ -1,5 +1,5 @@
 -- What a move changes, and the state after it. A move is first computed as its changes, then these are made.
-use Rattle.std.specs.Prelude.{ℕ, zero, suc, ◌+◌, Bool, false, cond, List, [], ◌∷◌, ◌==◌}
+use Rattle.std.specs.Prelude.{ℕ, ◌+◌, Bool, false, cond, List, [], ◌∷◌, ◌==◌}
 use Rattle.std.proofs.Math.Option.{Option, some, none, get_or}
 use Rattle.rules.specs.States.{Local, Mark, lesser, State}
 

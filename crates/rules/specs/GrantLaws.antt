@@ -14,7 +14,7 @@ use Rattle.rules.specs.Moves.{made}
 use Rattle.rules.specs.Invariants.{Wf}
 use Rattle.rules.specs.Runs.{Run}
 use Rattle.rules.specs.Answers.{limit, answer, granted}
-use Rattle.rules.specs.Choices.{Ran, run}
+use Rattle.rules.specs.Choices.{run}
 
 -- A move is granted exactly if it is named, the limit is not reached and the rules permit it; and then it is made.
 abbrev pub GrantedExactly : Type 0

@@ -7,7 +7,7 @@ use Rattle.rules.specs.Soundness.{Sound, HomesInside}
 use Rattle.rules.specs.States.{State, finished, Move}
 use Rattle.rules.specs.Permissions.{Permitted, Rests}
 use Rattle.rules.specs.Invariants.{Wf}
-use Rattle.rules.specs.Names.{Name, name_of, Exists, named_move, Precedes}
+use Rattle.rules.specs.Names.{name_of, Exists, named_move, Precedes}
 use Rattle.rules.specs.Listings.{nth, listing, at_rest}
 use Rattle.rules.specs.Answers.{verdict}
 

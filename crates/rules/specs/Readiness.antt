@@ -1,9 +1,9 @@
 -- Ready and spoiled for a home, and which places count.
 use Rattle.std.specs.Prelude.{◌≡◌, ℕ, Bool, ◌&&◌, T}
-use Rattle.std.proofs.Math.Option.{Option, some}
+use Rattle.std.proofs.Math.Option.{some}
 use Rattle.rules.specs.Programs.{Table, awaits}
 use Rattle.rules.specs.Trees.{Climb, climbs, nonzero, Child}
-use Rattle.rules.specs.States.{State, Local, running, parted, poisoned, live, is_parted}
+use Rattle.rules.specs.States.{State, running, parted, poisoned, live, is_parted}
 
 -- c is a live child of p that knows h.
 abbrev pub KnowingChild : Table → State → ℕ → ℕ → ℕ → Type 0

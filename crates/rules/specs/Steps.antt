@@ -1,5 +1,5 @@
 -- What a step of a place does.
-use Rattle.std.specs.Prelude.{ℕ, Bool, true, false, cond, ◌&&◌, List, [], ◌∷◌, ◌==◌, nat_eq}
+use Rattle.std.specs.Prelude.{ℕ, Bool, false, cond, ◌&&◌, List, [], ◌∷◌, ◌==◌, nat_eq}
 use Rattle.std.proofs.Math.Option.{Option, some, none, map}
 use Rattle.numbers.specs.Kinds.{Meaning}
 use Rattle.rules.specs.Programs.{

@@ -1,5 +1,6 @@
 // The rules of moves and what follows from them. The definitions are in specs/; a function here has no work to do:
 // its contract names theorems, so that the check asks for their proofs. The enums are what boards answer.
+#![tactic(auto)]
 
 pub mod answers;
 pub mod cases;

@@ -1,5 +1,5 @@
 -- The first block of a statement with the try that it stands in, and then the second without it.
-use Rattle.std.proofs.Common.{◌≡◌, ℕ, List, [], ◌∷◌, ◌++◌, length, take, Ok, Err, Result, sym, refl, ap, ◌∙◌, subst, append-nil}
+use Rattle.std.proofs.Common.{◌≡◌, ℕ, List, [], ◌++◌, length, take, Ok, Result, sym, refl, ap, ◌∙◌, subst, append-nil}
 use Rattle.reader.specs.declared.fault.Error.{Error}
 use Rattle.reader.specs.Faults.{Answer, Meets, ◌>>=◌}
 use Rattle.grammar.specs.declared.tree.Name as code-name

@@ -1,5 +1,5 @@
 -- Tests of lists, as membership.
-use Rattle.std.proofs.Common.{◌≡◌, ℕ, zero, suc, Bool, true, false, not, ◌&&◌, ◌||◌, T, eqb, ◌⊎◌, List, [], ◌∷◌, ◌++◌, Some, None, Option, sym, refl, ap, ◌∙◌, subst, inl, inr, arith, eqb→eq, T_not}
+use Rattle.std.proofs.Common.{◌≡◌, ℕ, zero, suc, not, T, eqb, ◌⊎◌, List, [], ◌∷◌, ◌++◌, Some, None, Option, sym, refl, ap, ◌∙◌, subst, inl, inr, arith, eqb→eq, T_not}
 use lib.Dec.{not_T}
 use Rattle.lemmas.proofs.Tests.{T_and, and_T, T_or, or_l, or_r, T_true, eq_eqb}
 use Rattle.reader.specs.Tokens.{same, among}

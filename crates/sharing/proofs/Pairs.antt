@@ -1,9 +1,9 @@
 -- A test of every two branches of a par.
-use Rattle.std.proofs.Common.{◌≡◌, ℕ, zero, suc, Bool, true, ◌&&◌, T, ◌≢◌, List, sym, refl, ap, ◌∙◌, subst}
+use Rattle.std.proofs.Common.{◌≡◌, ℕ, zero, suc, Bool, true, ◌&&◌, T, ◌≢◌, List, sym, refl, ap, subst}
 use Rattle.lemmas.proofs.Tests.{T_and, and_T}
 use Rattle.unfold.specs.Unfolded.{Got, Nodes, Branches, last, also}
 use Rattle.unfold.specs.Sharing.{ports, none_in, none_in_any, apart, all_ports, writes, none_among, none_among_any, names_apart, all_writes}
-use Rattle.sharing.specs.Fairness.{Branch, Writes, Port, Apart}
+use Rattle.sharing.specs.Fairness.{Branch, Apart}
 use Rattle.sharing.proofs.Ported.{and_both}
 use Rattle.sharing.proofs.Members.{zero_suc, suc_same, none_common, common_none, none_both, both_none, in_writes, writes_in, in_ports, ports_in}
 

@@ -1,5 +1,5 @@
 -- The stage passes exactly the texts whose every statement is fair.
-use Rattle.std.proofs.Common.{◌≡◌, ℕ, Bool, true, false, T, List, [], ◌∷◌, Ok, Err, sym, refl, ap, ◌∙◌, arith}
+use Rattle.std.proofs.Common.{◌≡◌, ℕ, Bool, true, false, T, List, Ok, Err, refl, ap, ◌∙◌, arith}
 use Rattle.reader.specs.declared.fault.Cause.{Cause}
 use Rattle.reader.specs.declared.fault.Cause.TheVariants.{WrittenTwice, ReferencedTwice, PortTwice, Uncaught}
 use Rattle.reader.specs.Faults.{Answer, must, ◌>>=◌}

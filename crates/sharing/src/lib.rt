@@ -1,4 +1,5 @@
 // The fifth stage of clearing: what branches of a par share, variables given twice by reference, and throws that no try catches.
+#![tactic(auto)]
 
 mod fairness;
 mod names;

@@ -1,8 +1,8 @@
 -- Rows read off the tables.
-use Rattle.std.proofs.Common.{◌≡◌, ℕ, zero, suc, ◌<◌, ◌≤◌, Bool, true, false, cond, eqb, List, [], ◌∷◌, length, get_or, vec_items, sym, refl, ap, ◌∙◌, arith}
+use Rattle.std.proofs.Common.{◌≡◌, ℕ, zero, suc, ◌<◌, ◌≤◌, Bool, true, false, cond, eqb, List, [], ◌∷◌, length, get_or, vec_items, sym, refl, ap, arith}
 use mathlib.Core.Option.{none}
 use Rattle.std.proofs.lemmas.List.{get_or_read}
-use Rattle.rules.specs.Programs.{end, awaits, goto, throw}
+use Rattle.rules.specs.Programs.{awaits, goto, throw}
 use Rattle.tables.specs.declared.stmt.Stmt.{Stmt}
 use Rattle.tables.specs.declared.stmt.Stmt.TheVariants.{End, Var, Set, Know, Next, Call, Test, Try, Take, Par, Goto, Throw}
 use Rattle.tables.specs.declared.rows.Point.{Point}

@@ -1,5 +1,5 @@
 -- The way up from a place to its parent, and on to the main block, one step at a time.
-use Rattle.std.proofs.Common.{◌≡◌, ℕ, zero, suc, ◌+◌, ◌-◌, ◌<◌, ◌≤◌, Bool, true, false, not, ◌&&◌, ◌||◌, eqb, ◌⊎◌, sym, refl, ap, ◌∙◌, subst, inl, inr, arith}
+use Rattle.std.proofs.Common.{◌≡◌, ℕ, zero, suc, ◌<◌, ◌≤◌, Bool, true, false, not, ◌&&◌, ◌||◌, eqb, sym, refl, ap, ◌∙◌, inl, inr, arith}
 use Rattle.std.proofs.lemmas.Bool.{not-true, eqb-false, cases_Bool, eq-eqb, ne_eqb}
 use Rattle.rules.specs.Programs.{Table}
 use Rattle.rules.specs.Trees.{climbs, nonzero, within}

@@ -1,5 +1,5 @@
 -- What of a program's tables makes every index safe.
-use Rattle.std.specs.Prelude.{◌≡◌, ℕ, ◌<◌, ◌≤◌, Bool, true, false, ◌&&◌, List, [], ◌∷◌, length, vec_items, vec_len, Vec, nat_lt, slice_index_or}
+use Rattle.std.specs.Prelude.{◌≡◌, ℕ, ◌<◌, ◌≤◌, Bool, true, ◌&&◌, List, [], ◌∷◌, vec_items, vec_len, Vec, nat_lt, slice_index_or}
 use Rattle.std.specs.declared.alloc.Global.{Global}
 use Rattle.rules.specs.Programs.{Expr, own, word, plus, minus, times, below, same, Stm, end, var, set, know, next, call, test, try, take, par, goto, throw, Copies}
 use Rattle.tables.specs.declared.rows.Point.{Point}

@@ -1,5 +1,5 @@
 -- The code's expressions, statements and points as those of the rules.
-use Rattle.std.specs.Prelude.{◌≡◌, ℕ, zero, suc, Bool, true, false, cond, ◌&&◌, List, [], ◌∷◌, length, get_or, Some, None, vec_items, Option, ◌==◌, nat_lt, slice_index_or}
+use Rattle.std.specs.Prelude.{◌≡◌, ℕ, zero, suc, Bool, cond, ◌&&◌, List, [], ◌∷◌, length, get_or, Some, None, vec_items, Option, ◌==◌, nat_lt, slice_index_or}
 use Rattle.rules.specs.Programs.{Expr, own, word, plus, minus, times, below, same, Stm, end, var, set, know, next, call, test, try, take, par, goto, throw, Copies}
 use Rattle.rules.specs.Moves.{any_below}
 use Rattle.tables.specs.declared.expr.Expr as enum

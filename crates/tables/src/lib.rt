@@ -1,4 +1,6 @@
 // The unfolded program as tables: its statements, places, cells, and what each place got.
+#![tactic(auto)]
+
 pub mod expr;
 pub mod moves;
 pub mod rows;

@@ -1,5 +1,5 @@
 -- Lists of occurrences that grow, and procedures by their index.
-use Rattle.std.proofs.Common.{◌≡◌, ℕ, ◌+◌, ◌-◌, ◌<◌, ◌≤◌, min, Bool, true, false, ◌&&◌, ◌||◌, ◌⊎◌, List, [], ◌∷◌, ◌++◌, length, get_or, take, drop, Some, None, Ok, Err, vec_items, Option, Result, sym, refl, ap, ◌∙◌, subst, inl, inr, append_assoc, append-nil, arith}
+use Rattle.std.proofs.Common.{◌≡◌, ℕ, ◌+◌, ◌-◌, ◌<◌, ◌≤◌, min, Bool, true, false, ◌&&◌, ◌||◌, ◌⊎◌, List, [], ◌∷◌, ◌++◌, length, get_or, take, drop, Some, None, Ok, Err, vec_items, Result, sym, refl, ap, ◌∙◌, subst, inl, inr, append_assoc, append-nil, arith}
 use native.Mathlib.Decide.{dec_lt}
 use Rattle.std.proofs.lemmas.List.{take_all, at_drop_more, at_drop_all, get_or_default}
 use Rattle.reader.specs.declared.fault.Error.{Error}
@@ -8,13 +8,13 @@ use Rattle.grammar.specs.declared.tree.Name as code-name
 use Rattle.grammar.specs.declared.tree.Param as code-param
 use Rattle.grammar.specs.declared.tree.Proc as code-proc
 use Rattle.grammar.specs.Trees.{Name, Param, Proc}
-use Rattle.grammar.specs.Views.{name, names, params, proc}
+use Rattle.grammar.specs.Views.{name, names, params}
 use Rattle.names.specs.Naming.{Reading, find_proc}
 use Rattle.names.specs.Scopes.{ended}
 use Rattle.names.proofs.Finding.{ended_last}
 use Rattle.unfold.specs.declared.uses.Use as code-use
 use Rattle.unfold.specs.Variables.{Uses, uses_args, written}
-use Rattle.unfold.specs.Unfolding.{Callee, callees, params_of, unfold_block}
+use Rattle.unfold.specs.Unfolding.{callees, params_of, unfold_block}
 use Rattle.unfold.specs.Calls.{callee_at, FoundAt}
 use Rattle.unfold.specs.Occurrences.{uses, params_in, visible_params, Adds}
 

@@ -1,27 +1,26 @@
 -- Calls and pars, as the code makes them.
-use Rattle.std.proofs.Common.{◌≡◌, ℕ, suc, ◌+◌, ◌-◌, ◌^◌, ◌<◌, ◌≤◌, min, Bool, true, false, ◌&&◌, T, leb, List, [], ◌∷◌, ◌++◌, length, get_or, take, Some, None, Ok, Err, vec_items, Option, Result, sym, refl, ap, ◌∙◌, subst, ap₂, arith, leb→le, length-append}
+use Rattle.std.proofs.Common.{◌≡◌, ℕ, suc, ◌+◌, ◌-◌, ◌^◌, ◌≤◌, min, Bool, true, false, ◌&&◌, leb, List, [], ◌∷◌, length, get_or, take, Some, None, Ok, Err, vec_items, Option, Result, sym, refl, ap, ◌∙◌, subst, arith, leb→le, length-append}
 use mathlib.Core.Path.{fun_ext}
 use native.Mathlib.Decide.{dec_lt}
-use Rattle.lemmas.proofs.Tests.{T_true, T_false, T_and}
+use Rattle.lemmas.proofs.Tests.{T_false}
 use Rattle.reader.specs.declared.fault.Cause.TheVariants.{NotVisible, OverLimit}
-use Rattle.reader.specs.declared.fault.Fault.{Fault}
 use Rattle.reader.specs.declared.fault.Error.{Error}
 use Rattle.reader.specs.declared.fault.Error.TheVariants.{Refused, OutOfMemory}
 use Rattle.reader.specs.Faults.{Answer, Meets, refuse, must, ◌>>=◌}
 use Rattle.grammar.specs.declared.tree.Param as code-param
 use Rattle.grammar.specs.declared.tree.Proc as code-proc
-use Rattle.grammar.specs.Trees.{Name, Stm, Call, Par, Block, Blocks, Also, Param, Proc}
-use Rattle.grammar.specs.Views.{name, names, params, block}
+use Rattle.grammar.specs.Trees.{Name, Stm, Call, Par, Block, Blocks, Also, Proc}
+use Rattle.grammar.specs.Views.{params, block}
 use Rattle.names.specs.Naming.{Reading}
 use Rattle.names.specs.Scopes.{ended}
 use Rattle.unfold.specs.declared.nodes.New as code-new
-use Rattle.unfold.specs.Unfolded.{New, Got, Node, Nodes, Branches, calls, two, par, nil}
+use Rattle.unfold.specs.Unfolded.{New, Got, Node, calls, two, par, nil}
 use Rattle.unfold.specs.Scopes.{Env, found}
 use Rattle.unfold.specs.Variables.{ParamsOf, uses_block, gets, got_new, all_get, all_new}
-use Rattle.unfold.specs.Unfolding.{Count, Callee, brings, branch_count, callees, params_of, passes, unfold_simple, unfold_stm, unfold_block, unfold_blocks}
-use Rattle.unfold.specs.Calls.{callee_at, FoundAt, entered, parted}
+use Rattle.unfold.specs.Unfolding.{Count, Callee, brings, branch_count, callees, params_of, passes, unfold_simple, unfold_stm, unfold_blocks}
+use Rattle.unfold.specs.Calls.{FoundAt, entered, parted}
 use Rattle.unfold.specs.Occurrences.{visible_params}
-use Rattle.unfold.specs.Views.{news, new, Gives}
+use Rattle.unfold.specs.Views.{news, Gives}
 use Rattle.unfold.proofs.Adding.{visible_is}
 use Rattle.unfold.proofs.Gains.{all_new_any}
 

@@ -16,7 +16,7 @@ use Rattle.unfold.specs.Scopes.{Binding, Env, lookup}
 use Rattle.unfold.specs.Variables.{Uses, ParamsOf, uses_block, written, gets, got_new, got_env, all_get, all_new}
 use Rattle.unfold.specs.Steps.{got_as, got_one, next_cell}
 use Rattle.unfold.specs.Occurrences.{uses}
-use Rattle.unfold.specs.Views.{env, binding, got, gots, new, news, perhaps}
+use Rattle.unfold.specs.Views.{env, binding, got, gots, new, news}
 
 module _ (v : Env) (all us : Uses) (had : List (List ℕ)) (n : Name) (b : Bool) (c : ℕ) where
   abbrev R : List (List ℕ) → ℕ → List Got

@@ -1,9 +1,9 @@
 -- Looking up a name in a table, from an index on.
-use Rattle.std.proofs.Common.{◌≡◌, ℕ, ◌+◌, ◌<◌, ◌≤◌, Bool, true, false, List, [], ◌∷◌, length, get_or, drop, Some, None, Option, sym, refl, ap, ◌∙◌}
+use Rattle.std.proofs.Common.{◌≡◌, ℕ, ◌+◌, ◌<◌, ◌≤◌, Bool, true, false, List, length, get_or, drop, Some, None, sym, ap, ◌∙◌}
 use Rattle.std.proofs.lemmas.List.{at_drop_more, at_drop_all}
 use Rattle.reader.specs.Tokens.{same}
 use Rattle.unfold.specs.declared.scopes.Binding as code-binding
-use Rattle.unfold.specs.Scopes.{Binding, lookup}
+use Rattle.unfold.specs.Scopes.{lookup}
 use Rattle.unfold.specs.Views.{env, binding}
 
 pub look_here : (text w : List ℕ) (bs : List code-binding.Binding) (i : ℕ) (d : code-binding.Binding) → i < length bs

@@ -4,7 +4,7 @@ use Rattle.grammar.specs.declared.tree.Proc as code-proc
 use Rattle.reader.specs.Faults.{Answer, ◌>>=◌}
 use Rattle.grammar.specs.Trees.{Name, Block, Blocks, Proc, Param}
 use Rattle.grammar.specs.Views.{params, block}
-use Rattle.names.specs.Naming.{Reading, find_proc}
+use Rattle.names.specs.Naming.{Reading}
 use Rattle.names.specs.Scopes.{ended}
 use Rattle.unfold.specs.Unfolded.{calls, Node, two, par, nil}
 use Rattle.unfold.specs.Scopes.{Env}

@@ -1,5 +1,5 @@
 -- What a name stands for: an own cell and a home cell.
-use Rattle.std.specs.Prelude.{ℕ, Bool, true, false, List, [], ◌∷◌, Some, None, Ok, Option}
+use Rattle.std.specs.Prelude.{ℕ, true, false, List, [], ◌∷◌, Some, None, Ok, Option}
 use Rattle.reader.specs.declared.fault.Cause.{Cause}
 use Rattle.reader.specs.declared.fault.Cause.TheVariants.{NotVisible, OutOfRange}
 use Rattle.reader.specs.Faults.{Answer, refuse, ◌>>=◌}

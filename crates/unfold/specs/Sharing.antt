@@ -1,5 +1,5 @@
 -- The fifth stage of clearing: what two branches of a par may not share, what a call may not be given twice, and throws that no try catches.
-use Rattle.std.specs.Prelude.{ℕ, Bool, true, false, not, ◌&&◌, List, [], ◌∷◌, ◌++◌, Some, None, Ok}
+use Rattle.std.specs.Prelude.{ℕ, Bool, true, not, ◌&&◌, List, [], ◌∷◌, ◌++◌, Some, None, Ok}
 use Rattle.reader.specs.declared.fault.Cause.TheVariants.{WrittenTwice, ReferencedTwice, PortTwice, Uncaught}
 use Rattle.reader.specs.Faults.{Answer, must, ◌>>=◌}
 use Rattle.reader.specs.Tokens.{among}

@@ -1,6 +1,6 @@
 -- The unfolded text: a tree of statements over cells, in which each call is followed by its procedure's block.
 -- Points and places are not in it: they follow from its shape.
-use Rattle.std.specs.Prelude.{ℕ, List, [], ◌∷◌, Option}
+use Rattle.std.specs.Prelude.{ℕ, List, Option}
 use Rattle.rules.specs.Programs as rules
 use Rattle.rules.specs.Programs.{Expr}
 use Rattle.grammar.specs.Trees.{Name}

@@ -1,5 +1,5 @@
 -- The fourth stage of clearing: the text is unfolded, within the limits.
-use Rattle.std.specs.Prelude.{ℕ, zero, suc, ◌+◌, Bool, true, false, cond, ◌&&◌, List, [], ◌∷◌, length, Some, None, Ok, Option, nat_le}
+use Rattle.std.specs.Prelude.{ℕ, suc, ◌+◌, true, false, cond, ◌&&◌, List, [], ◌∷◌, length, Some, None, Ok, Option, nat_le}
 use Rattle.reader.specs.declared.fault.Cause.TheVariants.{NotVisible, OutOfRange, OverLimit}
 use Rattle.reader.specs.Faults.{Answer, must, ◌>>=◌}
 use Rattle.reader.specs.Tokens.{same}

@@ -35,7 +35,7 @@ use Rattle.grammar.specs.Trees.{
 }
 use Rattle.rules.specs.Programs as rules
 use Rattle.unfold.specs.Unfolded.{New, Got}
-use Rattle.unfold.specs.Scopes.{Binding, Env, lookup}
+use Rattle.unfold.specs.Scopes.{Env, lookup}
 
 -- ---- what occurs in a branch
 

@@ -1,5 +1,5 @@
 -- What the code's unfolded text stands for, given the text that its names are parts of.
-use Rattle.std.specs.Prelude.{◌≡◌, ℕ, Bool, List, [], ◌∷◌, ◌++◌, Some, None, Ok, Err, vec_items, Option, Result}
+use Rattle.std.specs.Prelude.{◌≡◌, ℕ, List, [], ◌∷◌, ◌++◌, Some, None, Ok, Err, vec_items, Option, Result}
 use Rattle.reader.specs.declared.fault.Error.{Error}
 use Rattle.reader.specs.declared.fault.Error.TheVariants.{Refused, OutOfMemory}
 use Rattle.reader.specs.Faults.{Answer}

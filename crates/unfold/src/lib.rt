@@ -1,4 +1,5 @@
 // The fourth and fifth stages of clearing: the text is unfolded, and what its branches share is checked.
+#![tactic(auto)]
 
 mod after;
 mod counts;

@@ -1,4 +1,4 @@
-use Rattle.std.proofs.Common.{◌≡◌, ℕ, true, false, sym, ap, ◌∙◌, arith}
+use Rattle.std.proofs.Common.{◌≡◌, ℕ, true, false, arith}
 use Rattle.reader.specs.declared.token.Tag.TheVariants as tags
 use Rattle.grammar.proofs.Tags.{seen, unseen}
 use Rattle.grammar.proofs.Operators.{op_product, op_sum, op_less, op_equal}

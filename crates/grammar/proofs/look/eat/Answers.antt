@@ -1,6 +1,6 @@
-use Rattle.std.proofs.Common.{◌+◌, Err, sym, ap, ◌∙◌, arith}
+use Rattle.std.proofs.Common.{◌+◌, sym, ◌∙◌, arith}
 use Rattle.grammar.proofs.Tags.{sign_within}
-use Rattle.grammar.proofs.Telling.{valued, via, refuses, eat_yes, eat_no}
+use Rattle.grammar.proofs.Telling.{valued, refuses, eat_yes, eat_no}
 use Rattle.grammar.proofs.look.eat.Goals as goal
 
 pub overflow_add-result : goal.overflow_add-result

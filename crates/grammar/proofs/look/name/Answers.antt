@@ -1,4 +1,4 @@
-use Rattle.std.proofs.Common.{◌+◌, sym, refl, ◌∙◌, arith}
+use Rattle.std.proofs.Common.{sym, refl, ◌∙◌, arith}
 use Rattle.grammar.proofs.Tags.{within}
 use Rattle.grammar.proofs.Telling.{valued, refuses, name_yes, name_no}
 use Rattle.grammar.proofs.look.name.Goals as goal

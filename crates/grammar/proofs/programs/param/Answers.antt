@@ -1,6 +1,5 @@
-use Rattle.std.proofs.Common.{◌≡◌, sym, refl, ap, ◌∙◌, arith}
+use Rattle.std.proofs.Common.{sym, refl, ◌∙◌, arith}
 use Rattle.std.proofs.lemmas.Result.{err_from_is_err_and}
-use Rattle.grammar.specs.Reading.{from}
 use Rattle.reader.specs.declared.token.Tag.TheVariants as tags
 use Rattle.grammar.proofs.Tags.{sign_within}
 use Rattle.grammar.proofs.Telling.{told, via, valued, stopped, unmade}

@@ -1,4 +1,4 @@
-use Rattle.std.proofs.Common.{◌≡◌, ℕ, ◌+◌, ◌-◌, ◌<◌, ◌≤◌, List, length}
+use Rattle.std.proofs.Common.{◌≡◌, ℕ, ◌-◌, ◌≤◌, List, length}
 use Rattle.grammar.specs.Views.{view_params}
 use Rattle.grammar.specs.Readers.{parameters_at, more_params_at}
 use Rattle.grammar.specs.Reading.{from, in_front}

@@ -1,4 +1,4 @@
-use Rattle.std.proofs.Common.{◌≡◌, ℕ, List, length, take, drop, sym, ap, ◌∙◌, arith, length-drop}
+use Rattle.std.proofs.Common.{ℕ, List, length, take, drop, sym, ap, ◌∙◌, arith, length-drop}
 use lib.Seq.{take-nil}
 use Rattle.std.proofs.lemmas.List.{drop_all, take_all, length-take-le}
 use Rattle.layout.proofs.cells.name_length.Goals as goal

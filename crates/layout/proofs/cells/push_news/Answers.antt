@@ -1,4 +1,4 @@
-use Rattle.std.proofs.Common.{◌≡◌, vec_items, refl, ◌∙◌, arith}
+use Rattle.std.proofs.Common.{vec_items, refl, ◌∙◌, arith}
 use Rattle.std.proofs.lemmas.Slice.{pushed}
 use Rattle.unfold.specs.declared.nodes.New as code-new
 use Rattle.layout.proofs.Bringing.{fit_here, bring_more, bring_end}

@@ -1,6 +1,6 @@
-use Rattle.std.proofs.Common.{◌≡◌, ℕ, suc, ◌+◌, ◌-◌, List, [], ◌∷◌, ◌++◌, vec_items, sym, refl, ap, ◌∙◌, add-one, arith}
+use Rattle.std.proofs.Common.{◌≡◌, ℕ, suc, ◌+◌, ◌-◌, List, [], ◌∷◌, vec_items, sym, ap, ◌∙◌, add-one, arith}
 use Rattle.rules.specs.Programs.{end}
-use Rattle.program.specs.Layout.{Point, ends}
+use Rattle.program.specs.Layout.{ends}
 use Rattle.layout.specs.Rows.{point_rows, standing}
 use Rattle.layout.proofs.Joining.{joined}
 use Rattle.layout.proofs.ends.+push_ends.Goals as goal

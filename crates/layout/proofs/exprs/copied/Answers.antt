@@ -1,4 +1,4 @@
-use Rattle.std.proofs.Common.{◌≡◌, vec_items, refl, ◌∙◌, arith}
+use Rattle.std.proofs.Common.{vec_items, refl, ◌∙◌, arith}
 use Rattle.std.proofs.lemmas.Slice.{pushed}
 use Rattle.unfold.specs.declared.nodes.Transfer as code-transfer
 use Rattle.layout.proofs.Copying.{copy_here, copy_more, copy_end}

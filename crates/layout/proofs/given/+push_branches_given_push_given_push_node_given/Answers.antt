@@ -1,4 +1,4 @@
-use Rattle.std.proofs.Common.{◌≡◌, ℕ, ◌+◌, List, ◌++◌, vec_items, sym, refl, ap, ◌∙◌, add-one}
+use Rattle.std.proofs.Common.{ℕ, ◌+◌, List, ◌++◌, vec_items, sym, ap, ◌∙◌, add-one}
 use Rattle.unfold.specs.declared.nodes.Got as code_got
 use Rattle.unfold.specs.declared.nodes.Node as code-node
 use Rattle.unfold.specs.declared.nodes.Nodes as code-nodes

@@ -1,4 +1,4 @@
-use Rattle.std.proofs.Common.{◌≡◌, None, vec_items, refl, ◌∙◌, arith}
+use Rattle.std.proofs.Common.{None, vec_items, refl, ◌∙◌, arith}
 use Rattle.std.proofs.lemmas.Slice.{pushed}
 use Rattle.unfold.specs.declared.nodes.Got as code_got
 use Rattle.layout.proofs.Giving.{got_here, give_more, give_end}

@@ -1,4 +1,4 @@
-use Rattle.std.proofs.Common.{◌≡◌, List, ◌++◌, vec_items, sym, refl, ap, ◌∙◌}
+use Rattle.std.proofs.Common.{List, ◌++◌, vec_items, sym, ap, ◌∙◌}
 use Rattle.tables.specs.Stms.{copies}
 use Rattle.unfold.specs.declared.nodes.Got as code_got
 use Rattle.unfold.specs.declared.nodes.Branches as code-branches

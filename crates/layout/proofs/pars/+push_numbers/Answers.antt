@@ -1,4 +1,4 @@
-use Rattle.std.proofs.Common.{◌≡◌, ℕ, suc, ◌+◌, List, [], ◌∷◌, ◌++◌, vec_items, sym, refl, ap, ◌∙◌, add-one}
+use Rattle.std.proofs.Common.{ℕ, ◌+◌, [], ◌∷◌, vec_items, sym, refl, ap, ◌∙◌, add-one}
 use Rattle.std.proofs.lemmas.Slice.{pushed}
 use Rattle.unfold.specs.declared.nodes.Nodes as code-nodes
 use Rattle.unfold.specs.declared.nodes.Branches as code-branches

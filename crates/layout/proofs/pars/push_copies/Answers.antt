@@ -1,4 +1,4 @@
-use Rattle.std.proofs.Common.{◌≡◌, None, vec_items, refl, ◌∙◌}
+use Rattle.std.proofs.Common.{None, vec_items, ◌∙◌}
 use Rattle.tables.specs.Stms.{copies}
 use Rattle.unfold.specs.declared.nodes.Got as code_got
 use Rattle.layout.proofs.Sharing.{own_fits, own_more, own_end}

@@ -1,4 +1,4 @@
-use Rattle.std.proofs.Common.{◌≡◌, ℕ, ◌+◌, ◌≤◌, List, [], ◌∷◌, ◌++◌, length, vec_items, sym, refl, ap, ◌∙◌, arith, rules}
+use Rattle.std.proofs.Common.{◌+◌, [], ◌∷◌, ◌++◌, vec_items, refl, ap, ◌∙◌}
 use Rattle.unfold.specs.declared.nodes.Node as code-node
 use Rattle.unfold.specs.declared.nodes.Nodes as code-nodes
 use Rattle.unfold.specs.declared.nodes.Branches as code-branches
@@ -8,7 +8,7 @@ use Rattle.program.specs.Layout.{node_points, points, branch_points}
 use Rattle.layout.specs.Opens.{all_held}
 use Rattle.layout.specs.Rows.{point_rows, standing}
 use Rattle.layout.proofs.Joining.{joined}
-use Rattle.layout.proofs.Standing.{catches_length, two_points, par_points, seq_points, also_points}
+use Rattle.layout.proofs.Standing.{two_points, par_points, seq_points, also_points}
 use Rattle.layout.proofs.points.+push_branch_points_push_node_points_push_points.Goals as goal
 
 pub push_branch_points-returns-in_ok-push_points-in-Also : goal.push_branch_points-returns-in_ok-push_points-in-Also

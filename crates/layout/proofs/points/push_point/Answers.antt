@@ -1,4 +1,4 @@
-use Rattle.std.proofs.Common.{◌≡◌, ℕ, List, [], ◌∷◌, ◌++◌, vec_items, sym, refl, ap, ◌∙◌}
+use Rattle.std.proofs.Common.{ℕ, List, [], ◌∷◌, ◌++◌, vec_items, ap, ◌∙◌}
 use Rattle.tables.specs.declared.rows.Point as code-point
 use Rattle.tables.specs.Stms.{stm}
 use Rattle.layout.specs.Rows.{point_rows, standing}

@@ -1,4 +1,4 @@
-use Rattle.std.proofs.Common.{◌≡◌, sym, ◌∙◌}
+use Rattle.std.proofs.Common.{sym, ◌∙◌}
 use Rattle.grammar.specs.Views.{name}
 use Rattle.layout.proofs.Nearest.{near_here, near_on, near_end}
 use Rattle.layout.proofs.tries.nearest_try.Goals as goal

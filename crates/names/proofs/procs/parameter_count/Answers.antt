@@ -1,4 +1,4 @@
-use Rattle.std.proofs.Common.{◌≡◌, ℕ, ◌-◌, List, length, get_or, take, Some, None, vec_items, sym, refl, ap, ◌∙◌, arith}
+use Rattle.std.proofs.Common.{◌≡◌, ℕ, ◌-◌, List, take, Some, vec_items, sym, ap, ◌∙◌, arith}
 use Rattle.grammar.specs.Trees.{Proc}
 use Rattle.grammar.specs.Views.{name, proc}
 use Rattle.names.specs.Naming.{find_proc}

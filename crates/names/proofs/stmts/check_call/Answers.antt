@@ -1,4 +1,4 @@
-use Rattle.std.proofs.Common.{◌≡◌, ℕ, Bool, eqb, length, sym, refl, ap, ◌∙◌, eq-eqb, ne_eqb}
+use Rattle.std.proofs.Common.{◌≡◌, Bool, eqb, length, sym, ap, ◌∙◌, eq-eqb, ne_eqb}
 use Rattle.reader.specs.declared.fault.Cause.TheVariants.{ArgumentCount}
 use Rattle.reader.specs.Faults.{◌>>=◌, must}
 use Rattle.grammar.specs.Views.{name, names}

@@ -1,4 +1,4 @@
-use Rattle.std.proofs.Common.{◌≡◌, List, ◌++◌, vec_items, sym, ap, ◌∙◌, append-nil}
+use Rattle.std.proofs.Common.{List, ◌++◌, vec_items, sym, ap, ◌∙◌, append-nil}
 use Rattle.grammar.specs.declared.tree.Name as code-name
 use Rattle.names.proofs.Declaring.{not_one}
 use Rattle.names.proofs.stmts.declare.Goals as goal

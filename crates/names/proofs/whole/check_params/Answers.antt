@@ -2,7 +2,6 @@ use Rattle.std.proofs.Common.{◌≡◌, ◌+◌, false, List, [], ◌∷◌, �
 use Rattle.std.proofs.lemmas.Result.{err_from_is_err_and}
 use Rattle.std.proofs.lemmas.Slice.{pushed}
 use Rattle.reader.specs.declared.fault.Error.TheVariants.{Refused}
-use Rattle.reader.specs.Faults.{Answer, Meets}
 use Rattle.grammar.specs.declared.tree.Name as code-name
 use Rattle.grammar.specs.declared.tree.Param as code-param
 use Rattle.grammar.specs.Views.{name, params}

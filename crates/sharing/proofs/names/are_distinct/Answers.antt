@@ -1,4 +1,4 @@
-use Rattle.std.proofs.Common.{◌≡◌, ◌+◌, true, false, sym, ◌∙◌}
+use Rattle.std.proofs.Common.{◌+◌, true, false, sym, ◌∙◌}
 use Rattle.std.proofs.lemmas.List.{take_rest}
 use Rattle.sharing.proofs.Listed.{distinct_more, distinct_end}
 use Rattle.sharing.proofs.names.are_distinct.Goals as goal

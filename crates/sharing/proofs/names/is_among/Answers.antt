@@ -1,4 +1,4 @@
-use Rattle.std.proofs.Common.{◌≡◌, sym, ◌∙◌}
+use Rattle.std.proofs.Common.{sym, ◌∙◌}
 use Rattle.grammar.specs.Views.{name}
 use Rattle.sharing.proofs.Listed.{among_here, among_on, among_end}
 use Rattle.sharing.proofs.names.is_among.Goals as goal

@@ -1,4 +1,4 @@
-use Rattle.std.proofs.Common.{◌≡◌, Bool, sym, ap, ◌∙◌}
+use Rattle.std.proofs.Common.{Bool, sym, ap, ◌∙◌}
 use Rattle.reader.specs.declared.fault.Cause.TheVariants.{PortTwice}
 use Rattle.reader.specs.Faults.{must}
 use Rattle.sharing.proofs.Ported.{all_none}

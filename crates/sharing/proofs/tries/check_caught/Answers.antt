@@ -1,4 +1,4 @@
-use Rattle.std.proofs.Common.{◌≡◌, Bool, sym, ap, ◌∙◌}
+use Rattle.std.proofs.Common.{Bool, sym, ap, ◌∙◌}
 use Rattle.reader.specs.declared.fault.Cause.TheVariants.{Uncaught}
 use Rattle.reader.specs.Faults.{must}
 use Rattle.grammar.specs.Views.{name}

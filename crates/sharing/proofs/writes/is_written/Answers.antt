@@ -1,4 +1,4 @@
-use Rattle.std.proofs.Common.{◌≡◌, sym, ◌∙◌}
+use Rattle.std.proofs.Common.{sym, ◌∙◌}
 use Rattle.grammar.specs.Views.{name}
 use Rattle.sharing.proofs.Listed.{written_here, written_on, written_end}
 use Rattle.sharing.proofs.writes.is_written.Goals as goal

@@ -1,4 +1,4 @@
-use Rattle.std.proofs.Common.{◌≡◌, sym, ◌∙◌}
+use Rattle.std.proofs.Common.{sym, ◌∙◌}
 use Rattle.unfold.specs.Sharing.{writes}
 use Rattle.unfold.specs.Views.{gots}
 use Rattle.sharing.proofs.Listed.{apart_here, apart_on, apart_end}

@@ -1,4 +1,4 @@
-use Rattle.std.proofs.Common.{◌≡◌, ℕ, length, vec_items, sym, ap, ◌∙◌, subst}
+use Rattle.std.proofs.Common.{ℕ, vec_items, sym, ◌∙◌, subst}
 use Rattle.unfold.specs.Unfolding.{brings}
 use Rattle.unfold.specs.Views.{count, Gives}
 use Rattle.unfold.proofs.Entries.{news_length}

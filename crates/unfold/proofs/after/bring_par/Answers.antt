@@ -1,4 +1,4 @@
-use Rattle.std.proofs.Common.{◌≡◌, ℕ, length, vec_items, sym, ap, ◌∙◌, subst}
+use Rattle.std.proofs.Common.{ℕ, length, vec_items, sym, ap, ◌∙◌, subst}
 use Rattle.reader.specs.Faults.{Answer}
 use Rattle.grammar.specs.Views.{blocks}
 use Rattle.unfold.specs.Unfolding.{Count, branch_count, brings}

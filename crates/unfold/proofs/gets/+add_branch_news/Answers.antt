@@ -1,4 +1,4 @@
-use Rattle.std.proofs.Common.{◌≡◌, List, ◌++◌, vec_items, sym, ap, ◌∙◌, ap₂}
+use Rattle.std.proofs.Common.{List, ◌++◌, vec_items, sym, ap, ◌∙◌, ap₂}
 use Rattle.grammar.specs.Trees.{Block, Blocks, Also}
 use Rattle.grammar.specs.Views.{block, blocks}
 use Rattle.names.specs.Scopes.{ended}

@@ -1,4 +1,4 @@
-use Rattle.std.proofs.Common.{◌≡◌, vec_items, sym, ◌∙◌}
+use Rattle.std.proofs.Common.{vec_items, sym, ◌∙◌}
 use Rattle.unfold.proofs.Gains.{news_step, news_end}
 use Rattle.unfold.proofs.gets.add_news.Goals as goal
 

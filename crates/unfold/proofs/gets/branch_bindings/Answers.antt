@@ -1,4 +1,4 @@
-use Rattle.std.proofs.Common.{◌≡◌, is_ok, vec_items, sym, ap, ◌∙◌}
+use Rattle.std.proofs.Common.{is_ok, vec_items, sym, ap, ◌∙◌}
 use Rattle.unfold.proofs.Gains.{env_step, env_end, pushed}
 use Rattle.unfold.proofs.gets.branch_bindings.Goals as goal
 

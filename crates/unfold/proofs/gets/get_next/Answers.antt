@@ -1,4 +1,4 @@
-use Rattle.std.proofs.Common.{◌≡◌, ℕ, ◌+◌, ◌≤◌, List, [], ◌∷◌, ◌++◌, Some, vec_items, sym, ap, ◌∙◌, subst, rules}
+use Rattle.std.proofs.Common.{◌≡◌, ℕ, ◌+◌, ◌≤◌, [], ◌∷◌, ◌++◌, Some, vec_items, sym, subst, rules}
 use Rattle.grammar.specs.Views.{name}
 use Rattle.names.specs.Scopes.{scope}
 use Rattle.unfold.specs.Steps.{got_one}

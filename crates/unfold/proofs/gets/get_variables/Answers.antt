@@ -1,4 +1,4 @@
-use Rattle.std.proofs.Common.{◌≡◌, ◌+◌, false, get_or, drop, vec_items, sym, ap, ◌∙◌, append-nil, arith, rules}
+use Rattle.std.proofs.Common.{◌+◌, false, get_or, drop, vec_items, sym, ◌∙◌, append-nil, arith}
 use Rattle.unfold.specs.declared.uses.Use as code-use
 use Rattle.unfold.specs.Variables.{Uses}
 use Rattle.unfold.specs.Occurrences.{uses}

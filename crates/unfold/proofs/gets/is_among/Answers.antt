@@ -1,4 +1,4 @@
-use Rattle.std.proofs.Common.{◌≡◌, ℕ, ◌-◌, Bool, true, false, ◌||◌, length, take, sym, refl, ap, ◌∙◌, arith}
+use Rattle.std.proofs.Common.{◌-◌, Bool, ◌||◌, take, sym, ap, ◌∙◌, arith}
 use Rattle.reader.specs.Tokens.{among}
 use Rattle.grammar.specs.Views.{name}
 use Rattle.names.specs.Scopes.{scope}

@@ -1,8 +1,7 @@
-use Rattle.std.proofs.Common.{◌≡◌, ℕ, ◌+◌, false, length, get_or, Ok, Err, vec_items, Result, sym, ap, ◌∙◌, subst, arith}
+use Rattle.std.proofs.Common.{◌+◌, false, length, Ok, Err, vec_items, Result, sym, ap, ◌∙◌, subst, arith}
 use Rattle.std.proofs.lemmas.Result.{err_from_is_err_and}
 use Rattle.reader.specs.declared.fault.Error.{Error}
 use Rattle.reader.specs.Faults.{Answer, ◌>>=◌}
-use Rattle.grammar.specs.declared.tree.Name as code-name
 use Rattle.grammar.specs.declared.tree.Param as code-param
 use Rattle.grammar.specs.Views.{names, params}
 use Rattle.unfold.specs.declared.passing.Passed as code-passed

@@ -1,4 +1,4 @@
-use Rattle.std.proofs.Common.{◌≡◌, ◌+◌, ◌≤◌, length, drop, Ok, vec_items}
+use Rattle.std.proofs.Common.{◌≡◌, ◌+◌, length, drop, Ok, vec_items}
 use Rattle.reader.specs.Faults.{◌>>=◌}
 use Rattle.grammar.specs.Views.{names, params}
 use Rattle.unfold.specs.Unfolding.{passes}

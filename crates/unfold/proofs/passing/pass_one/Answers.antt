@@ -1,4 +1,4 @@
-use Rattle.std.proofs.Common.{◌≡◌, ℕ, ◌+◌, List, [], ◌∷◌, ◌++◌, length, vec_items, sym, ap, ◌∙◌, rules}
+use Rattle.std.proofs.Common.{◌≡◌, ◌+◌, [], ◌∷◌, ◌++◌, length, vec_items, rules}
 use Rattle.unfold.specs.declared.nodes.New as code-new
 use Rattle.unfold.proofs.Passes.{ref_on, value_on, count_same, count_more}
 use Rattle.unfold.proofs.passing.pass_one.Goals as goal

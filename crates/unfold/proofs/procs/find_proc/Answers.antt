@@ -1,4 +1,4 @@
-use Rattle.std.proofs.Common.{◌≡◌, sym, ◌∙◌, arith}
+use Rattle.std.proofs.Common.{◌∙◌, arith}
 use Rattle.grammar.specs.Views.{name}
 use Rattle.unfold.proofs.Adding.{callee_all, callee_here, callee_on}
 use Rattle.unfold.proofs.procs.find_proc.Goals as goal

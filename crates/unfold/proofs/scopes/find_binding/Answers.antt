@@ -1,4 +1,4 @@
-use Rattle.std.proofs.Common.{◌≡◌, sym, ◌∙◌}
+use Rattle.std.proofs.Common.{sym, ◌∙◌}
 use Rattle.grammar.specs.Views.{name}
 use Rattle.unfold.proofs.Lookups.{look_here, look_on, look_end}
 use Rattle.unfold.proofs.scopes.find_binding.Goals as goal

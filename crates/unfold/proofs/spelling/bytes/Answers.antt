@@ -1,7 +1,7 @@
-use Rattle.std.proofs.Common.{◌≡◌, ℕ, ◌-◌, ◌≤◌, List, length, take, drop, sym, ap, ◌∙◌, arith, length-drop}
+use Rattle.std.proofs.Common.{ℕ, ◌-◌, List, take, drop, sym, ap, ◌∙◌, arith, length-drop}
 use native.Mathlib.Nat.{sub-zero}
 use lib.Seq.{take-nil}
-use Rattle.std.proofs.lemmas.List.{take_all, drop_all, take_rest, length-take}
+use Rattle.std.proofs.lemmas.List.{take_all, drop_all, take_rest}
 use Rattle.unfold.proofs.spelling.bytes.Goals as goal
 
 pub returns-then-at-text : goal.returns-then-at-text

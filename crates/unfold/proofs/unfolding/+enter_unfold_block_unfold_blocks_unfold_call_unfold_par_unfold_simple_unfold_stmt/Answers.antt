@@ -1,18 +1,17 @@
-use Rattle.std.proofs.Common.{◌≡◌, ℕ, ◌+◌, ◌-◌, ◌*◌, ◌<◌, ◌≤◌, List, ◌++◌, length, take, vec_items, sym, ap, ◌∙◌, subst, ap₂, arith, rules}
+use Rattle.std.proofs.Common.{◌≡◌, ℕ, List, ◌++◌, take, vec_items, sym, ap, ◌∙◌, arith, rules}
 use native.Mathlib.Nat.{sub-zero}
 use Rattle.numbers.specs.Literals.{literal_reading}
 use Rattle.grammar.specs.declared.tree.Blocks as code-blocks
 use Rattle.grammar.specs.declared.tree.Stmt as code-stmt
-use Rattle.grammar.proofs.tree.Blocks.TheLaws as branches
-use Rattle.grammar.specs.Trees.{Stm, Block, Blocks, Also, Par}
-use Rattle.grammar.specs.Views.{stm, block, blocks}
+use Rattle.grammar.specs.Trees.{Par}
+use Rattle.grammar.specs.Views.{stm, blocks}
 use Rattle.names.specs.Scopes.{ended}
 use Rattle.unfold.specs.declared.nodes.New as code-new
 use Rattle.unfold.specs.Variables.{all_get, all_new}
 use Rattle.unfold.specs.Unfolding.{branch_count}
 use Rattle.unfold.specs.Occurrences.{visible_params}
-use Rattle.unfold.specs.Views.{env, count, news, gots, node_count}
-use Rattle.unfold.proofs.Entries.{par_gives, par_fits, blocks_fit}
+use Rattle.unfold.specs.Views.{env, count, news, node_count}
+use Rattle.unfold.proofs.Entries.{par_gives, par_fits}
 use Rattle.unfold.proofs.Weights.{weights, lighter}
 use Rattle.unfold.proofs.unfolding.+enter_unfold_block_unfold_blocks_unfold_call_unfold_par_unfold_simple_unfold_stmt.Goals as goal
 

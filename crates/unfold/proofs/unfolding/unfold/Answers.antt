@@ -1,4 +1,4 @@
-use Rattle.std.proofs.Common.{◌≡◌, List, vec_items, sym, ap, ◌∙◌, subst}
+use Rattle.std.proofs.Common.{List, vec_items, subst}
 use Rattle.numbers.specs.Literals.{literal_reading}
 use Rattle.grammar.specs.declared.tree.Proc as code-proc
 use Rattle.grammar.specs.Views.{block}

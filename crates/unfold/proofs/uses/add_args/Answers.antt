@@ -1,4 +1,4 @@
-use Rattle.std.proofs.Common.{◌≡◌, ◌++◌, vec_items, sym, ap, ◌∙◌, append-nil, arith}
+use Rattle.std.proofs.Common.{◌++◌, vec_items, sym, ap, ◌∙◌, append-nil, arith}
 use Rattle.unfold.specs.Variables.{Uses}
 use Rattle.unfold.specs.Occurrences.{uses}
 use Rattle.unfold.proofs.Adding.{args_step, args_end, min_ends}

@@ -1,4 +1,4 @@
-use Rattle.std.proofs.Common.{◌≡◌, List, ◌++◌, vec_items, sym, ap, ◌∙◌}
+use Rattle.std.proofs.Common.{List, ◌++◌, vec_items, sym, ap, ◌∙◌}
 use Rattle.grammar.specs.Trees.{Param}
 use Rattle.grammar.specs.Views.{name, names}
 use Rattle.unfold.specs.Variables.{uses_args}

@@ -1,4 +1,4 @@
-use Rattle.std.proofs.Common.{◌≡◌, ◌+◌, Bool, ◌||◌, drop, sym, ap, ◌∙◌}
+use Rattle.std.proofs.Common.{◌+◌, Bool, ◌||◌, drop, sym, ap, ◌∙◌}
 use Rattle.grammar.specs.Views.{name}
 use Rattle.unfold.specs.Variables.{written}
 use Rattle.unfold.specs.Occurrences.{uses}

@@ -1,4 +1,4 @@
-use Rattle.std.proofs.Common.{◌≡◌, ◌+◌, ◌≤◌, Bool, cond, List, [], ◌∷◌, ◌++◌, sym, refl, ap, ◌∙◌, subst, arith}
+use Rattle.std.proofs.Common.{◌+◌, Bool, cond, [], ◌∷◌, ◌++◌, sym, ap, subst, arith}
 use Rattle.board.specs.declared.scan.Scan.{Scan}
 use Rattle.tables.specs.Views.{move}
 use Rattle.board.specs.Scans.{Scanned}

@@ -1,4 +1,4 @@
-use Rattle.std.proofs.Common.{◌≡◌, ℕ, false, cond, eqb, List, length, get_or, sym, refl, ap, ◌∙◌, subst, arith, length-set}
+use Rattle.std.proofs.Common.{ℕ, false, cond, eqb, List, length, get_or, refl, ap, ◌∙◌, arith, length-set}
 use Rattle.tables.specs.Views.{table}
 use Rattle.board.specs.Views.{portless, flags}
 use Rattle.board.proofs.Copying.{met_cell_more, get_d_set}

@@ -1,4 +1,4 @@
-use Rattle.std.proofs.Common.{◌≡◌, ℕ, ◌+◌, Bool, sym, refl, ◌∙◌, subst, arith}
+use Rattle.std.proofs.Common.{◌+◌, sym, refl, subst, arith}
 use Rattle.rules.specs.Tests.{knowing_child}
 use Rattle.tables.specs.Views.{table}
 use Rattle.board.specs.Views.{portless, flags}

@@ -1,12 +1,11 @@
-use Rattle.std.proofs.Common.{◌≡◌, ℕ, ◌+◌, ◌-◌, length, get_or, set, sym, refl, ap, ◌∙◌, subst, arith}
+use Rattle.std.proofs.Common.{◌+◌, set, refl, ap, subst, arith}
 use Rattle.rules.specs.States.{Local}
-use Rattle.rules.specs.Readiness.{counted}
 use Rattle.rules.specs.Moves.{close_effect}
 use Rattle.board.specs.declared.state.State.{State}
 use Rattle.tables.specs.Views.{table}
-use Rattle.board.specs.Views.{local, idle_place, place, portless, flags}
-use Rattle.board.specs.Effects.{with_places, After, observed_by}
-use Rattle.board.proofs.Sweeps.{Swept, swept_none, swept_more, swept_after, still_few, close_past}
+use Rattle.board.specs.Views.{local}
+use Rattle.board.specs.Effects.{with_places, After}
+use Rattle.board.proofs.Sweeps.{swept_none, swept_more, swept_after, close_past}
 use Rattle.board.proofs.state.State.close.Goals as goal
 
 pub loop-q-init : goal.loop-q-init

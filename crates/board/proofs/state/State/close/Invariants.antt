@@ -1,8 +1,8 @@
 use Rattle.std.proofs.Common.{◌≡◌}
 use Rattle.rules.specs.Moves.{close_effect}
 use Rattle.tables.specs.Views.{table}
-use Rattle.board.specs.Views.{local, portless, flags}
-use Rattle.board.specs.Effects.{with_places, observed_by}
+use Rattle.board.specs.Views.{local}
+use Rattle.board.specs.Effects.{with_places}
 use Rattle.board.proofs.Sweeps.{Swept}
 use Rattle.board.proofs.state.State.close.Given as goal
 

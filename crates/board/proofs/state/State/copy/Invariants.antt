@@ -1,4 +1,4 @@
-use Rattle.std.proofs.Common.{◌≡◌, length, drop}
+use Rattle.std.proofs.Common.{◌≡◌, drop}
 use Rattle.board.specs.Effects.{with_cells, copied}
 use Rattle.board.proofs.state.State.copy.Given as goal
 

@@ -1,4 +1,4 @@
-use Rattle.std.proofs.Common.{◌≡◌, ℕ, ◌<◌, ◌≤◌, false, length, get_or}
+use Rattle.std.proofs.Common.{◌≡◌, ℕ, ◌<◌, false, length, get_or}
 use Rattle.rules.specs.Readiness.{counted}
 use Rattle.tables.specs.Views.{table}
 use Rattle.board.specs.Views.{portless}

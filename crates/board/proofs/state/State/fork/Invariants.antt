@@ -1,4 +1,4 @@
-use Rattle.std.proofs.Common.{◌≡◌, length, drop}
+use Rattle.std.proofs.Common.{◌≡◌, drop}
 use Rattle.tables.specs.Views.{table}
 use Rattle.board.specs.Effects.{with_places, forked}
 use Rattle.board.proofs.state.State.fork.Given as goal

@@ -1,12 +1,11 @@
-use Rattle.std.proofs.Common.{◌≡◌, ℕ, ◌+◌, ◌-◌, length, get_or, set, sym, refl, ap, ◌∙◌, subst, arith}
-use Rattle.rules.specs.States.{Local}
+use Rattle.std.proofs.Common.{set, sym, refl, ap, arith}
 use Rattle.rules.specs.Readiness.{counted}
-use Rattle.rules.specs.Moves.{poison_effect, observed}
+use Rattle.rules.specs.Moves.{poison_effect}
 use Rattle.board.specs.declared.state.State.{State}
 use Rattle.tables.specs.Views.{table}
-use Rattle.board.specs.Views.{local, idle_place, place, portless, flags}
-use Rattle.board.specs.Effects.{with_places, After, observed_by}
-use Rattle.board.proofs.Sweeps.{Swept, swept_none, swept_more, swept_after, still_few, poison_past, poison_at, observed_same}
+use Rattle.board.specs.Views.{portless, flags}
+use Rattle.board.specs.Effects.{with_places, observed_by}
+use Rattle.board.proofs.Sweeps.{swept_none, swept_more, swept_after, poison_past, poison_at, observed_same}
 use Rattle.board.proofs.state.State.poison.Goals as goal
 
 pub loop-q-init : goal.loop-q-init

@@ -1,8 +1,8 @@
 use Rattle.std.proofs.Common.{◌≡◌}
 use Rattle.rules.specs.Moves.{poison_effect, observed}
 use Rattle.tables.specs.Views.{table}
-use Rattle.board.specs.Views.{local, portless, flags}
-use Rattle.board.specs.Effects.{with_places, observed_by}
+use Rattle.board.specs.Views.{portless}
+use Rattle.board.specs.Effects.{with_places}
 use Rattle.board.proofs.Sweeps.{Swept}
 use Rattle.board.proofs.state.State.poison.Given as goal
 

@@ -1,4 +1,4 @@
-use Rattle.std.proofs.Common.{◌≡◌, sym, refl, ◌∙◌, subst, arith, length-set}
+use Rattle.std.proofs.Common.{arith, length-set}
 use Rattle.tables.specs.Views.{table}
 use Rattle.board.specs.Views.{portless}
 use Rattle.board.proofs.Backward.{ready_written}

@@ -1,4 +1,4 @@
-use Rattle.std.proofs.Common.{◌≡◌, List, [], ◌∷◌, ◌++◌, sym, refl, ap, ◌∙◌, subst, append_assoc}
+use Rattle.std.proofs.Common.{List, [], ◌++◌, refl, ◌∙◌, subst, append_assoc}
 use Rattle.rules.specs.States.{Move}
 use Rattle.rules.specs.Listings.{listing, each, steps_of, closes_of, meets_of, poisons_of}
 use Rattle.tables.specs.Views.{table}

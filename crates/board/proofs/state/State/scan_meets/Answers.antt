@@ -1,9 +1,8 @@
-use Rattle.std.proofs.Common.{◌≡◌, cond, List, [], ◌∷◌, ◌++◌, sym, refl, ap, ◌∙◌, arith}
-use Rattle.rules.specs.States.{Move, step, close, meet, poison}
-use Rattle.rules.specs.Listings.{each, steps_of, closes_of, meets_of, poisons_of, if_permitted}
+use Rattle.std.proofs.Common.{cond, [], ◌∷◌, ◌++◌, ap, arith}
+use Rattle.rules.specs.States.{meet}
+use Rattle.rules.specs.Listings.{each, meets_of}
 use Rattle.tables.specs.Views.{table}
 use Rattle.board.specs.Views.{portless}
-use Rattle.tables.specs.Views.{cells_of}
 use Rattle.board.proofs.Scanning.{each_more}
 use Rattle.board.proofs.state.State.scan_meets.Goals as goal
 

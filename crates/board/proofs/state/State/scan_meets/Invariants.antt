@@ -1,9 +1,8 @@
-use Rattle.std.proofs.Common.{◌≡◌, ℕ, ◌+◌, ◌*◌, ◌≤◌, List, ◌++◌}
-use Rattle.rules.specs.States.{Move, poison}
-use Rattle.rules.specs.Listings.{each, steps_of, closes_of, meets_of, poisons_of, if_permitted}
+use Rattle.std.proofs.Common.{ℕ, ◌+◌, ◌≤◌, List, ◌++◌}
+use Rattle.rules.specs.States.{Move}
+use Rattle.rules.specs.Listings.{each, meets_of}
 use Rattle.tables.specs.Views.{table}
 use Rattle.board.specs.Views.{portless}
-use Rattle.tables.specs.Views.{cells_of}
 use Rattle.board.specs.Scans.{Scanned}
 use Rattle.board.proofs.state.State.scan_meets.Given as goal
 

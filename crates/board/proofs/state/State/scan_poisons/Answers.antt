@@ -1,6 +1,5 @@
-use Rattle.std.proofs.Common.{◌≡◌, cond, List, [], ◌∷◌, ◌++◌, sym, refl, ap, ◌∙◌, arith}
-use Rattle.rules.specs.States.{Move, step, close, meet, poison}
-use Rattle.rules.specs.Listings.{each, steps_of, closes_of, meets_of, poisons_of, if_permitted}
+use Rattle.std.proofs.Common.{◌++◌, refl, arith}
+use Rattle.rules.specs.Listings.{each, poisons_of}
 use Rattle.tables.specs.Views.{table}
 use Rattle.board.specs.Views.{portless}
 use Rattle.tables.specs.Views.{cells_of}

@@ -1,4 +1,4 @@
-use Rattle.std.proofs.Common.{◌≡◌, false, ◌&&◌, ◌||◌, eqb, sym, refl, ap, ◌∙◌, arith}
+use Rattle.std.proofs.Common.{false, ◌||◌, sym, refl, ap, arith}
 use Rattle.std.proofs.lemmas.Bool.{and_right}
 use Rattle.board.specs.Loops.{spoiled_sibling}
 use Rattle.tables.specs.Views.{table}

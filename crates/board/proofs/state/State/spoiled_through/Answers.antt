@@ -1,7 +1,6 @@
-use Rattle.std.proofs.Common.{◌≡◌, ℕ, ◌+◌, Bool, not, ◌||◌, sym, refl, ap, ◌∙◌, subst, ap₂, arith}
-use Rattle.rules.specs.Moves.{any_below}
+use Rattle.std.proofs.Common.{sym, refl, ◌∙◌, arith}
 use Rattle.rules.specs.Tests.{knowing_child}
-use Rattle.std.proofs.lemmas.Bool.{or_left, or_right}
+use Rattle.std.proofs.lemmas.Bool.{or_right}
 use Rattle.board.specs.Loops.{spoiled_child}
 use Rattle.tables.specs.Views.{table}
 use Rattle.board.specs.Views.{portless, flags}

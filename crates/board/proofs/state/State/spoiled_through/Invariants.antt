@@ -1,4 +1,4 @@
-use Rattle.std.proofs.Common.{◌≡◌, Bool, false}
+use Rattle.std.proofs.Common.{◌≡◌, false}
 use Rattle.rules.specs.Moves.{any_below}
 use Rattle.rules.specs.Tests.{knowing_child}
 use Rattle.board.specs.Loops.{spoiled_child}

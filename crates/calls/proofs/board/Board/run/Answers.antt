@@ -1,14 +1,12 @@
-use Rattle.std.proofs.Common.{◌≡◌, ℕ, ◌+◌, ◌%◌, ◌<◌, ◌≤◌, true, List, [], length, get_or, drop, Some, None, sym, refl, ap, ◌∙◌, subst, mod-lt, zero-add, arith}
+use Rattle.std.proofs.Common.{◌≡◌, ℕ, ◌+◌, ◌%◌, ◌<◌, [], length, get_or, drop, sym, refl, ap, ◌∙◌, mod-lt, zero-add, arith}
 use Rattle.std.proofs.lemmas.List.{drop_all}
-use Rattle.rules.specs.Programs.{Table}
 use Rattle.rules.specs.States.{State}
 use Rattle.rules.specs.Moves.{made}
-use Rattle.rules.specs.Listings.{listing, nth}
-use Rattle.rules.specs.Choices.{run}
-use Rattle.rules.specs.declared.answers.Stop.TheVariants.{Rest, Limit, End}
+use Rattle.rules.specs.Listings.{listing}
+use Rattle.rules.specs.declared.answers.Stop.TheVariants.{Rest, Limit}
 use Rattle.tables.specs.declared.tables.Tables.{Tables}
 use Rattle.calls.specs.Boards.{state_of}
-use Rattle.tables.specs.Views.{cells_of, moved}
+use Rattle.tables.specs.Views.{cells_of}
 use Rattle.tables.specs.Views.{table, move}
 use Rattle.board.specs.Views.{portless}
 use Rattle.calls.proofs.Choosing.{plus, plus_one, plus_none, stops, run_rest, run_full, run_end, run_next, nth_within, all_granted, same_length, same_chosen, same_last}

@@ -1,4 +1,4 @@
-use Rattle.std.proofs.Common.{◌≡◌, sym, refl, ap, ◌∙◌, arith}
+use Rattle.std.proofs.Common.{sym, ap, ◌∙◌, arith}
 use Rattle.rules.specs.Trees.{within}
 use Rattle.tables.specs.Views.{table}
 use Rattle.tables.proofs.Ways.{within_here, within_up, within_none}
