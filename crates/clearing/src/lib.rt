@@ -1,4 +1,5 @@
 // Clearing: a program is filled from a text, stage by stage.
+#![tactic(auto)]
 
 mod blank;
 mod laid;
