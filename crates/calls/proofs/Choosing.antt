@@ -12,7 +12,7 @@ use Rattle.rules.specs.Tests.{permitted}
 use Rattle.rules.specs.Listings.{listing, nth, each, if_permitted, steps_of, closes_of, meets_of, poisons_of}
 use Rattle.rules.specs.Names.{Exists}
 use Rattle.rules.specs.Choices.{Ran, one_more, stopped, chosen, made_if, run}
-use Rattle.calls.specs.declared.board.Board.{Board}
+use Rattle.calls.specs.declared.powered.Board.{Board}
 use Rattle.rules.specs.declared.answers.Stop.{Stop}
 use Rattle.rules.specs.declared.answers.Stop.TheVariants.{Rest, Limit, End}
 use Rattle.calls.specs.Boards.{state_of}

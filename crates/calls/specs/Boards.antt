@@ -16,7 +16,7 @@ use Rattle.rules.specs.Listings.{at_rest}
 use Rattle.tables.specs.declared.moves.MoveName.{MoveName}
 use Rattle.tables.specs.Views.{table, cells_of, name}
 use Rattle.board.specs.Views.{view}
-use Rattle.calls.specs.declared.board.Board.{Board}
+use Rattle.calls.specs.declared.powered.Board.{Board}
 
 -- The state of a board, with the words to come at its bank; `words` is the meaning of the bank's type.
 abbrev pub state_of : {K B : Type 0} → (B → Words) → Board K B → State

@@ -9,7 +9,7 @@ use Rattle.program.specs.Layout as laid
 use Rattle.program.specs.Clearing.{cleared, fresh, left}
 use Rattle.layout.specs.Shown.{Shows}
 use Rattle.names.proofs.Declaring.{met_ok, met_err}
-use Rattle.clearing.specs.declared.program.Program.{Program}
+use Rattle.clearing.specs.declared.programs.Program.{Program}
 use Rattle.clearing.specs.Cleared.{statements_of, Holds, left_by, Cleared}
 
 -- tables and a count that stand for a program

@@ -7,7 +7,7 @@ use Rattle.reader.specs.Faults.{Answer, Meets}
 use Rattle.program.specs.Layout as laid
 use Rattle.program.specs.Clearing.{cleared, fresh, left}
 use Rattle.layout.specs.Shown.{Shows}
-use Rattle.clearing.specs.declared.program.Program.{Program}
+use Rattle.clearing.specs.declared.programs.Program.{Program}
 
 -- The points are those of the statements and the ends of the places.
 abbrev pub statements_of : laid.Program → ℕ

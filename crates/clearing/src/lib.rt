@@ -3,5 +3,5 @@
 
 mod blank;
 mod laid;
-pub mod program;
+pub mod programs;
 mod stages;

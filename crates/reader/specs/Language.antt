@@ -1,6 +1,6 @@
 -- The tokens of the language, and how they lie in a text: what the definition of reading comes to, said without it.
 use Rattle.std.specs.Prelude.{◌≡◌, ℕ, ◌+◌, ◌<◌, ◌≤◌, ◌⊎◌, List, [], ◌∷◌, ◌++◌, length, Ok, Err}
-use Rattle.std.specs.List.{AllByRecursion as All}
+use Rattle.std.specs.List.{AllByRecursion}
 use Rattle.reader.specs.declared.fault.Fault.{Fault}
 use Rattle.reader.specs.declared.fault.Cause.TheVariants.{TextTooLong, NoToken}
 use Rattle.reader.specs.Tokens.{Lexeme, Class, name, number, fixed, finish, signs, reserved, tokenized}
@@ -23,9 +23,9 @@ Among w (v ∷ vs) = (w ≡ v) ⊎ Among w vs
 -- how a token is made, whatever its length
 pub data Form : Class → List ℕ → Type 0 where
   -- a name is a letter and then letters and digits, and no reserved word
-  a_name : (b : ℕ) (bs : List ℕ) → Letter b → All (λ x. Letter x ⊎ Digit x) bs → (Among (b ∷ bs) reserved → ⊥) → Form name (b ∷ bs)
+  a_name : (b : ℕ) (bs : List ℕ) → Letter b → AllByRecursion (λ x. Letter x ⊎ Digit x) bs → (Among (b ∷ bs) reserved → ⊥) → Form name (b ∷ bs)
   -- a number is decimal digits, one at least
-  a_number : (b : ℕ) (bs : List ℕ) → Digit b → All Digit bs → Form number (b ∷ bs)
+  a_number : (b : ℕ) (bs : List ℕ) → Digit b → AllByRecursion Digit bs → Form number (b ∷ bs)
   -- the reserved words and the signs are those listed
   a_word : (w : List ℕ) → Among w reserved → Form fixed w
   a_sign : (w : List ℕ) → Among w signs → Form fixed w
@@ -47,8 +47,8 @@ Longest w rest = (c : Class) (v t : List ℕ) → v ++ t ≡ w ++ rest → Form 
 -- The tokens of a text, of which a part that begins at an offset is given: separators, the longest token,
 -- and the tokens of the rest; after the last separators the text's end counts as one. Each offset is the length of what stands before.
 pub data Laid : ℕ → List ℕ → List Lexeme → Type 0 where
-  at_end : (o : ℕ) (bs : List ℕ) → All Separates bs → Laid o bs (record { class = finish; text = []; at = o + length bs } ∷ [])
-  token : (o : ℕ) (bs gap w rest : List ℕ) (c : Class) (ls : List Lexeme) → bs ≡ gap ++ (w ++ rest) → All Separates gap → IsToken c w → Longest w rest
+  at_end : (o : ℕ) (bs : List ℕ) → AllByRecursion Separates bs → Laid o bs (record { class = finish; text = []; at = o + length bs } ∷ [])
+  token : (o : ℕ) (bs gap w rest : List ℕ) (c : Class) (ls : List Lexeme) → bs ≡ gap ++ (w ++ rest) → AllByRecursion Separates gap → IsToken c w → Longest w rest
       → Laid (o + length gap + length w) rest ls
       → Laid o bs (record { class = c; text = w; at = o + length gap } ∷ ls)
 
@@ -60,9 +60,9 @@ Unreadable bs =
 
 -- Reading comes to an offset where no token can be read: what stands before it is separators and longest tokens.
 pub data Stuck : ℕ → List ℕ → ℕ → Type 0 where
-  here : (o : ℕ) (bs gap : List ℕ) (b : ℕ) (rest : List ℕ) → bs ≡ gap ++ (b ∷ rest) → All Separates gap → (Separates b → ⊥) → Unreadable (b ∷ rest)
+  here : (o : ℕ) (bs gap : List ℕ) (b : ℕ) (rest : List ℕ) → bs ≡ gap ++ (b ∷ rest) → AllByRecursion Separates gap → (Separates b → ⊥) → Unreadable (b ∷ rest)
       → Stuck o bs (o + length gap)
-  after : (o : ℕ) (bs gap w rest : List ℕ) (c : Class) (p : ℕ) → bs ≡ gap ++ (w ++ rest) → All Separates gap → IsToken c w → Longest w rest
+  after : (o : ℕ) (bs gap w rest : List ℕ) (c : Class) (p : ℕ) → bs ≡ gap ++ (w ++ rest) → AllByRecursion Separates gap → IsToken c w → Longest w rest
       → Stuck (o + length gap + length w) rest p
       → Stuck o bs p
 

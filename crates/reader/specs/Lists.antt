@@ -1,6 +1,6 @@
 -- What a list of tokens of a text always is.
 use Rattle.std.specs.Prelude.{◌≡◌, ℕ, ◌+◌, ◌≤◌, List, [], ◌∷◌, ◌++◌, length}
-use Rattle.std.specs.List.{AllByRecursion as All}
+use Rattle.std.specs.List.{AllByRecursion}
 use Rattle.reader.specs.declared.token.Token.{Token}
 use Rattle.reader.specs.declared.token.Tag.TheVariants.{End}
 
@@ -13,6 +13,6 @@ pub record Ended (text : List ℕ) (ts : List Token) : Type 0 where
   pub last : Token
   pub split : ts ≡ before ++ (last ∷ [])
   pub ends : last.tag ≡ End
-  pub within : All (Within text) ts
+  pub within : AllByRecursion (Within text) ts
   pub few : length ts ≤ length text + 1
   pub short : length text ≤ 16384

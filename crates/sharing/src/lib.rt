@@ -2,9 +2,9 @@
 #![tactic(auto)]
 
 mod fairness;
-mod names;
 mod part;
 mod ports;
+mod references;
 mod stage;
 mod tries;
 mod writes;

@@ -5,8 +5,8 @@ ghost use Rattle.names.specs.Scopes.{scope};
 ghost use Rattle.unfold.specs.Sharing.{node_sharing, sharing, branches_sharing};
 ghost use Rattle.unfold.specs.Views.{Gives, node, nodes as meant, branches as all};
 
-use crate::names::check_references;
 use crate::ports::check_ports;
+use crate::references::check_references;
 use crate::tries::{check_caught, close, open};
 use crate::writes::check_writes;
 use grammar::tree::Name;

@@ -7,7 +7,7 @@ ghost use Rattle.grammar.specs.Views.{name};
 ghost use Rattle.names.specs.Scopes.{scope};
 ghost use Rattle.sharing.specs.Opening.{Opened};
 
-use crate::names::is_among;
+use crate::references::is_among;
 use grammar::tree::Name;
 use reader::fault::{Cause, Error, Fault};
 use unfold::nodes::Part;

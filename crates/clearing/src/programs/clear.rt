@@ -5,7 +5,7 @@ ghost use Rattle.clearing.specs.Cleared.{Holds, Cleared};
 
 use crate::blank::{blank_tables, reset_tables};
 use crate::laid::cleared_tables;
-use crate::program::Program;
+use crate::programs::Program;
 use numbers::kind::NumberKind;
 use reader::fault::Error;
 use std::alloc::{AllocError, Global};

@@ -4,7 +4,7 @@ ghost use Rattle.rules.specs.States.{powered};
 ghost use Rattle.tables.specs.Views.{table};
 ghost use Rattle.calls.specs.Boards.{state_of};
 
-use crate::board::Board;
+use crate::powered::Board;
 use banks::bank::Bank;
 use board::state::State;
 use numbers::kind::NumberKind;

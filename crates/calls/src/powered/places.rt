@@ -4,8 +4,8 @@ ghost use Rattle.tables.specs.Views.{table};
 ghost use Rattle.board.specs.Views.{local, marked, portless};
 ghost use Rattle.calls.specs.Looks.{condition, waits_for, PlaceTold};
 
-use crate::board::Board;
 use crate::looks::{Condition, PlaceLook};
+use crate::powered::Board;
 use banks::bank::Bank;
 use board::state::Local;
 use numbers::kind::NumberKind;

@@ -1,5 +1,5 @@
 use Rattle.std.proofs.Common.{refl}
-use Rattle.calls.proofs.board.Board.power.Goals as goal
+use Rattle.calls.proofs.powered.Board.power.Goals as goal
 
 pub returns : goal.returns
 returns g c = record { view = c.power-state.ensures.view (g.B.Bank.words c.args.bank); tables = refl; kind = refl; bank = refl }

@@ -1,10 +1,10 @@
 use Rattle.std.proofs.Common.{◌≡◌, Ok, Err, Result, sym, refl, ap, ◌∙◌, subst}
 use Rattle.std.proofs.lemmas.Result.{err_from_is_err_and}
 use Rattle.reader.specs.declared.fault.Error.{Error}
-use Rattle.clearing.specs.declared.program.Program.{Program}
+use Rattle.clearing.specs.declared.programs.Program.{Program}
 use Rattle.clearing.specs.Cleared.{Cleared}
 use Rattle.clearing.proofs.Filling.{clear_refused, clear_granted}
-use Rattle.clearing.proofs.program.Program.clear.Goals as goal
+use Rattle.clearing.proofs.programs.Program.clear.Goals as goal
 
 pub returns-in_err-tables : goal.returns-in_err-tables
 returns-in_err-tables g c =

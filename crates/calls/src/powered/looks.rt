@@ -6,7 +6,7 @@ ghost use Rattle.tables.specs.Views.{table, cells_of};
 ghost use Rattle.board.specs.Views.{portless};
 ghost use Rattle.calls.specs.Boards.{Told};
 
-use crate::board::Board;
+use crate::powered::Board;
 use banks::bank::Bank;
 use board::state::Local;
 use numbers::kind::NumberKind;

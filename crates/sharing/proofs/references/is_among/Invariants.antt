@@ -2,7 +2,7 @@ use Rattle.std.proofs.Common.{◌≡◌, drop}
 use Rattle.reader.specs.Tokens.{among}
 use Rattle.grammar.specs.Views.{name}
 use Rattle.unfold.specs.Views.{spellings}
-use Rattle.sharing.proofs.names.is_among.Given as goal
+use Rattle.sharing.proofs.references.is_among.Given as goal
 
 abbrev pub invariant-loop-m : goal.invariant-loop-m
 invariant-loop-m l =

@@ -1,7 +1,7 @@
 use Rattle.std.proofs.Common.{sym, ◌∙◌}
 use Rattle.grammar.specs.Views.{name}
 use Rattle.sharing.proofs.Listed.{among_here, among_on, among_end}
-use Rattle.sharing.proofs.names.is_among.Goals as goal
+use Rattle.sharing.proofs.references.is_among.Goals as goal
 
 pub returns-then-alike : goal.returns-then-alike
 returns-then-alike c =

@@ -4,7 +4,7 @@ use Rattle.tables.specs.Views.{cells_of}
 use Rattle.rules.specs.Choices.{run}
 use Rattle.tables.specs.Views.{table}
 use Rattle.calls.proofs.Choosing.{plus}
-use Rattle.calls.proofs.board.Board.run.Given as goal
+use Rattle.calls.proofs.powered.Board.run.Given as goal
 
 abbrev pub invariant-loop-choice : goal.invariant-loop-choice
 invariant-loop-choice g l =

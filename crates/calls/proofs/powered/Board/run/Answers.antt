@@ -10,7 +10,7 @@ use Rattle.tables.specs.Views.{cells_of}
 use Rattle.tables.specs.Views.{table, move}
 use Rattle.board.specs.Views.{portless}
 use Rattle.calls.proofs.Choosing.{plus, plus_one, plus_none, stops, run_rest, run_full, run_end, run_next, nth_within, all_granted, same_length, same_chosen, same_last}
-use Rattle.calls.proofs.board.Board.run.Goals as goal
+use Rattle.calls.proofs.powered.Board.run.Goals as goal
 
 pub loop-choice-init : goal.loop-choice-init
 loop-choice-init g c = (plus_none _, refl, refl, zero-add _)

@@ -4,8 +4,8 @@ ghost use Rattle.tables.specs.Views.{table, cells_of};
 ghost use Rattle.board.specs.Views.{portless};
 ghost use Rattle.calls.specs.Looks.{CellTold};
 
-use crate::board::Board;
 use crate::looks::CellLook;
+use crate::powered::Board;
 use banks::bank::Bank;
 use numbers::kind::NumberKind;
 use rules::answers::Refusal;

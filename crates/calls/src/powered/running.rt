@@ -4,7 +4,7 @@ ghost use Rattle.tables.specs.Views.{table, cells_of};
 ghost use Rattle.board.specs.Views.{portless};
 ghost use Rattle.calls.specs.Boards.{RunTells, last_stop};
 
-use crate::board::Board;
+use crate::powered::Board;
 use banks::bank::Bank;
 use numbers::kind::NumberKind;
 use rules::answers::Stop;

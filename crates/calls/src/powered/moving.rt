@@ -7,7 +7,7 @@ ghost use Rattle.tables.specs.Views.{table, cells_of, move};
 ghost use Rattle.board.specs.Views.{portless};
 ghost use Rattle.calls.specs.Boards.{state_of, Moved};
 
-use crate::board::Board;
+use crate::powered::Board;
 use banks::bank::Bank;
 use numbers::kind::NumberKind;
 use rules::answers::Refusal;

@@ -1,7 +1,7 @@
 use Rattle.std.proofs.Common.{◌+◌, true, false, sym, ◌∙◌}
 use Rattle.std.proofs.lemmas.List.{take_rest}
 use Rattle.sharing.proofs.Listed.{distinct_more, distinct_end}
-use Rattle.sharing.proofs.names.are_distinct.Goals as goal
+use Rattle.sharing.proofs.references.are_distinct.Goals as goal
 
 pub returns-then-is_among : goal.returns-then-is_among
 returns-then-is_among c =

@@ -1,7 +1,7 @@
 // What a program holds.
 ghost use Rattle.std.specs.Prelude.{◌≡◌};
 
-use crate::program::Program;
+use crate::programs::Program;
 use tables::tables::Tables;
 
 impl<K> Program<K> {
