@@ -157,11 +157,11 @@ pub meet_after : (t : Table) (h p : ℕ) (s r : State) (i : ℕ) (f : ℕ → Bo
     → ((c : ℕ) → get_or cs c 0 ≡ met_cell t (portless s) f (get_or s.cells h 0) t.places c)
     → After (meet_effect t h (observed t (portless s) h p) (get_or s.cells h 0)) s
     (record { places = r.places; cells = cs; meets = set r.meets h (get_or r.meets h 0 + 1); total = r.total + 1 })
-meet_after t h p s r i f cs c lt few eq w l fs n met-cell-is =
+meet_after t h p s r i f cs c lt few eq w l fs n met_cell_is =
     record {
       shape = (w.0, n, length-set r.meets h (get_or r.meets h 0 + 1) ∙ ms ∙ c.0.2);
       places = swept_all (meet_effect t h (observed t (portless s) h p) (get_or s.cells h 0)) s.places i r.places w c.0.0 l (meet_past s c.0 (counted t (portless s) h p) t h (get_or s.cells h 0));
-      cells = λ k. met-cell-is k ∙ ap (λ b. cond b (get_or s.cells h 0) (get_or s.cells k 0)) (any_same t.places _ _ (λ q a. ap (λ b. owns_at t (runs_at (cond b (some ((portless s).at q)) none)) k) (fs q (omega arith)))) ∙ over (any_below t.places (λ q. owns_at t (runs_at (observed t (portless s) h p q)) k)) (get_or s.cells h 0) (get_or s.cells k 0);
+      cells = λ k. met_cell_is k ∙ ap (λ b. cond b (get_or s.cells h 0) (get_or s.cells k 0)) (any_same t.places _ _ (λ q a. ap (λ b. owns_at t (runs_at (cond b (some ((portless s).at q)) none)) k) (fs q (omega arith)))) ∙ over (any_below t.places (λ q. owns_at t (runs_at (observed t (portless s) h p q)) k)) (get_or s.cells h 0) (get_or s.cells k 0);
       meets = λ k. let z = ms in let y = c.0.2 in get_d_set r.meets h k (get_or r.meets h 0 + 1) 0 (omega arith) ∙ counts k (eqb k h) refl;
       total = let t = ap (λ (v : State). v.total) eq in omega arith;
     }

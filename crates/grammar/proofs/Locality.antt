@@ -130,8 +130,8 @@ fuel_local {A} p lp ts = go (p (suc (length ts)) ts) (lp (suc (length ts)) ts (o
 -- a loop that stops at a token, and else reads something and goes on
 module _
     {X Y : Type 0} (W : ℕ → Parser Y) (b : Lexeme → Bool) (q : Parser X) (z : Y) (g : X → Y → Y)
-    (W-stop : (n : ℕ) (ts : Tokens) → b (here ts) ≡ true → W (suc n) ts ≡ Ok (z, ts))
-    (W-go : (n : ℕ) (ts : Tokens) → b (here ts) ≡ false → W (suc n) ts ≡ (q ts >>= (λ x. W n x.1 >>= (λ y. Ok (g x.0 y.0, y.1)))))
+    (W_stop : (n : ℕ) (ts : Tokens) → b (here ts) ≡ true → W (suc n) ts ≡ Ok (z, ts))
+    (W_go : (n : ℕ) (ts : Tokens) → b (here ts) ≡ false → W (suc n) ts ≡ (q ts >>= (λ x. W n x.1 >>= (λ y. Ok (g x.0 y.0, y.1)))))
     (lq : (ts : Tokens) → b (here ts) ≡ false → Out q ts (q ts))
     (less : (ts : Tokens) (x : X × Tokens) → q ts ≡ Ok x → length x.1 < length ts)
   where
@@ -156,7 +156,7 @@ module _
             let read : q (pre ++ (pre2 ++ r)) ≡ Ok (x.0, pre2 ++ r) = k (pre2 ++ r) next in
             let sh = less (pre ++ (pre2 ++ r)) (x.0, pre2 ++ r) read in
             let la = ap (λ w. length w) a in
-            ap (W (suc n)) a ∙ W-go n (pre ++ (pre2 ++ r)) same_b ∙ ap (λ m. m >>= K n) read ∙ f n (omega arith)
+            ap (W (suc n)) a ∙ W_go n (pre ++ (pre2 ++ r)) same_b ∙ ap (λ m. m >>= K n) read ∙ f n (omega arith)
 
         go : (m : Answer (Y × Tokens)) → FOut (λ n ts. W n ts >>= (λ y. Ok (g x.0 y.0, y.1))) x.1 m → FOut W ts m
         go (Ok y) o =
@@ -170,11 +170,11 @@ module _
       where
         stop : (r : Tokens) (n : ℕ) → length r < n → b (here r) ≡ true → W n r ≡ Ok (z, r)
         stop r zero l e = absurd (omega arith)
-        stop r (suc n) l e = W-stop n r e
+        stop r (suc n) l e = W_stop n r e
 
         fail : (pre r : Tokens) (x : Fault) (n : ℕ) → length (pre ++ r) < n → b (here (pre ++ r)) ≡ false → q (pre ++ r) ≡ Err x → W n (pre ++ r) ≡ Err x
         fail pre r x zero l e i = absurd (omega arith)
-        fail pre r x (suc n) l e i = W-go n (pre ++ r) e ∙ ap (λ m. m >>= K n) i
+        fail pre r x (suc n) l e i = W_go n (pre ++ r) e ∙ ap (λ m. m >>= K n) i
 
         step : b (here ts) ≡ false → ((u : Tokens) → length u < n → FOut W u (W n u)) → (m : Answer (X × Tokens)) → q ts ≡ m → Out q ts m → FOut W ts (m >>= K n)
         step bf rec (Err x) i o =
@@ -184,5 +184,5 @@ module _
             went ts bf x o.0 o.1 o.2 (K n x) (mapped n x.0 x.1 (W n x.1) (rec x.1 (omega arith)))
 
         go : (v : Bool) → b (here ts) ≡ v → ((u : Tokens) → length u < n → FOut W u (W n u)) → FOut W ts (W (suc n) ts)
-        go true e rec = subst (λ (m : Answer (Y × Tokens)). FOut W ts m) (sym (W-stop n ts e)) ([], refl, λ r h n l. stop r n l (ap b h ∙ e))
-        go false e rec = subst (λ (m : Answer (Y × Tokens)). FOut W ts m) (sym (W-go n ts e)) (step e rec (q ts) refl (lq ts e))
+        go true e rec = subst (λ (m : Answer (Y × Tokens)). FOut W ts m) (sym (W_stop n ts e)) ([], refl, λ r h n l. stop r n l (ap b h ∙ e))
+        go false e rec = subst (λ (m : Answer (Y × Tokens)). FOut W ts m) (sym (W_go n ts e)) (step e rec (q ts) refl (lq ts e))

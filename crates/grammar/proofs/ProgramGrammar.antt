@@ -101,14 +101,14 @@ procs_sound (suc n) ts x e =
           let v = bound (a_name (rest ts)) (λ v. in_parens 16 (λ n. parameters) v.1 >>= (λ ps. block 16 ps.1 >>= (λ b. Ok (made v.0 ps.0 b.0, b.1)))) q.0 q.1 in
           let ps = bound (in_parens 16 (λ n. parameters) v.0.1) (λ ps. block 16 ps.1 >>= (λ b. Ok (made v.0.0 ps.0 b.0, b.1))) q.0 v.2 in
           let b = bound (block 16 ps.0.1) (λ b. Ok (made v.0.0 ps.0.0 b.0, b.1)) q.0 ps.2 in
-          let same-q = ok_eq (made v.0.0 ps.0.0 b.0.0, b.0.1) q.0 b.2 in
+          let same_q = ok_eq (made v.0.0 ps.0.0 b.0.0, b.0.1) q.0 b.2 in
           let t : ts ≡ sign (codes "proc") (here ts).at ∷ name_token v.0.0 ∷ v.0.1 = sign_is (codes "proc") ts i.0 ∙ ap (λ z. sign (codes "proc") (here ts).at ∷ z) (a_name_is (rest ts) v.0 v.1) in
-          let rest_is : ProcsWithin 16 more.0.0 b.0.1 more.0.1 = subst (λ (z : Proc × Tokens). ProcsWithin 16 more.0.0 z.1 more.0.1) (sym same-q) (procs_sound n q.0.1 more.0 more.1) in
+          let rest_is : ProcsWithin 16 more.0.0 b.0.1 more.0.1 = subst (λ (z : Proc × Tokens). ProcsWithin 16 more.0.0 z.1 more.0.1) (sym same_q) (procs_sound n q.0.1 more.0 more.1) in
           let all_is : ProcsWithin 16 (made v.0.0 ps.0.0 b.0.0 ∷ more.0.0) ts more.0.1 =
           subst (λ (z : Tokens). ProcsWithin 16 (made v.0.0 ps.0.0 b.0.0 ∷ more.0.0) z more.0.1) (sym t)
           (L.a_proc (here ts).at v.0.0 (parens_sound 16 (λ n. parameters) (λ n. Parameters) (λ n. parameters_sound) v.0.1 ps.0 ps.1) (blocks_sound 16 ps.0.1 b.0 b.1) rest_is) in
           subst (λ (z : List Proc × Tokens). ProcsWithin 16 z.0 ts z.1) (ok_eq (q.0.0 ∷ more.0.0, more.0.1) x more.2)
-          (subst (λ (z : Proc × Tokens). ProcsWithin 16 (z.0 ∷ more.0.0) ts more.0.1) same-q all_is)
+          (subst (λ (z : Proc × Tokens). ProcsWithin 16 (z.0 ∷ more.0.0) ts more.0.1) same_q all_is)
       | inr i ↦ subst (λ (z : List Proc × Tokens). ProcsWithin 16 z.0 ts z.1) (ok_eq ([], ts) x i.1) no_proc
     ]
 

@@ -211,7 +211,7 @@ module _ (B : Block → Tokens → Tokens → Type 0) (p : Parser Block) (room :
         ∙ then (λ b. more_blocks p 6 b.1 >>= (λ m. eat (codes ";") m.1 >>= (λ t. Ok (Par at (Also a (Also b.0 m.0)), t)))) (pr b u w i tt)
         ∙ then (λ m. eat (codes ";") m.1 >>= (λ t. Ok (Par at (Also a (Also b m.0)), t))) (up_to_read 6 bs w (sign (codes ";") c ∷ r) j refl)
 
-  module _ (sh : Shrinks B) (sh-less : (b : Block) (ts r : Tokens) → B b ts r → length r < length ts) where
+  module _ (sh : Shrinks B) (sh_less : (b : Block) (ts r : Tokens) → B b ts r → length r < length ts) where
     up_to_shrink : (n : ℕ) (bs : Blocks) (ts r : Tokens) → UpTo B n bs ts r → length r ≤ length ts
     up_to_shrink n bs ts r (enough m) = omega arith
     up_to_shrink n bs ts r (another m {b = b} {bs = cs} {a = a} h k) =
@@ -226,7 +226,7 @@ module _ (B : Block → Tokens → Tokens → Type 0) (p : Parser Block) (room :
     statement_shrinks s ts r (s_next at c v) = (refl, omega arith)
     statement_shrinks s ts r (s_know at c v) = (refl, omega arith)
     statement_shrinks s ts r (s_throw at c v) = (refl, omega arith)
-    statement_shrinks s ts r (s_block at {b = b} {ts = t} h) = (refl, sh-less b (sign (codes "{") at ∷ t) r h)
+    statement_shrinks s ts r (s_block at {b = b} {ts = t} h) = (refl, sh_less b (sign (codes "{") at ∷ t) r h)
     statement_shrinks s ts r (s_if at c {e = e} {a = a} {b = b} {ts = t} {t = u} {u = w} h i j) =
         (refl, let k = condition_shrink room e t u h in let l = sh a u (sign (codes "else") c ∷ w) i in let m = sh b w r j in omega arith)
     statement_shrinks s ts r (s_while at {e = e} {a = a} {ts = t} {t = u} h i) = (refl, let k = condition_shrink room e t u h in let l = sh a u r i in omega arith)

@@ -29,8 +29,8 @@ some_left n (suc k) some h = omega arith
 pub digit_more : (n rest from : ℕ) (bs : List ℕ) → n < 2 ^ 32 → rest ≤ n → 10 ≤ rest → 0 < from → from ≤ length bs
     → decimal n ≡ before rest ++ drop from bs
     → decimal n ≡ before (rest / 10) ++ drop (from - 1) (set bs (from - 1) (48 + rest / 10 % 10))
-digit_more n rest zero bs h le ten pos in-bs e = absurd (omega arith)
-digit_more n rest (suc from) bs h le ten pos in-bs e =
+digit_more n rest zero bs h le ten pos in_bs e = absurd (omega arith)
+digit_more n rest (suc from) bs h le ten pos in_bs e =
     let small : rest / 10 < 2 ^ 32 = omega arith in
     e ∙ ap (λ ds. ds ++ drop (suc from) bs) (cond-false _ _ _ (le-ltb rest 10 ten) ∙ decimal_last (rest / 10) small)
     ∙ append_assoc (before (rest / 10)) ((48 + rest / 10 % 10) ∷ []) (drop (suc from) bs)
@@ -38,7 +38,7 @@ digit_more n rest (suc from) bs h le ten pos in-bs e =
 
 -- a byte put before the written ones
 pub put_before : (b from : ℕ) (bs : List ℕ) → 1 ≤ from → from ≤ length bs → drop (from - 1) (set bs (from - 1) b) ≡ b ∷ drop from bs
-put_before b from bs some in-bs =
+put_before b from bs some in_bs =
     let next : from - 1 + 1 ≡ from = omega arith in
     drop-set bs (from - 1) b (omega arith) ∙ ap (λ n. b ∷ drop n bs) next
 

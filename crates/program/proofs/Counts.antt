@@ -170,10 +170,10 @@ within_limits l bs p i =
     let d = bound (unfolded l c.0 b.0.main) (λ us. sharing [] us >>= (λ u. Ok (laid_out us))) p c.2 in
     let f = bound (sharing [] d.0) (λ u. Ok (laid_out d.0)) p d.2 in
     let k = bound (unfold_block l (callees l c.0) b.0.main [] start) (λ r. Ok r.0) d.0 d.1 in
-    let same-us = ok_eq k.0.0 d.0 k.2 in
+    let same_us = ok_eq k.0.0 d.0 k.2 in
     let us = k.0.0 in
     let n = block_count b.0.main l (callees l c.0) [] start (callees_count l c.0) k.0 k.1 in
     let s = (block_ok (cell_in us) b.0.main l (callees l c.0) [] start (callees_ok (cell_in us) l c.0) k.0 k.1).0 0 1 in
     subst (λ (q : Program). (length q.places ≤ 64) × (length q.cells ≤ 128) × (length q.points ≤ 1024 + length q.places))
-    (ap laid_out same-us ∙ ok_eq (laid_out d.0) p f.2)
+    (ap laid_out same_us ∙ ok_eq (laid_out d.0) p f.2)
     (laid us k.0.1 (omega arith) (omega arith) (omega arith) (n.2 (omega arith, omega arith, omega arith)))

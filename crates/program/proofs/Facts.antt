@@ -81,8 +81,8 @@ module _
     (good : (x : ℕ) → Good P Q C n x (P x))
     (fine : (q : ℕ) → T (nonzero q) → q < n → Fine P Q C q)
     (past : (q : ℕ) → n ≤ q → Q q ≡ no_place)
-    (root-got : (Q 0).got ≡ [])
-    (root-start : (P (Q 0).start).place ≡ 0)
+    (root_got : (Q 0).got ≡ [])
+    (root_start : (P (Q 0).start).place ≡ 0)
     (some_place : 0 < n)
   where
     abbrev t : Table
@@ -98,7 +98,7 @@ module _
                 | inr z ↦
                     elim (same? q 0) [
                       | inl i ↦
-                          absurd (subst (λ (v : List ℕ). T (elem a v)) e (subst (λ (v : List Got). T (elem a (f v))) root-got (subst (λ (v : ℕ). T (elem a (f (Q v).got))) i h)))
+                          absurd (subst (λ (v : List ℕ). T (elem a v)) e (subst (λ (v : List Got). T (elem a (f v))) root_got (subst (λ (v : ℕ). T (elem a (f (Q v).got))) i h)))
                       | inr i ↦ absurd (z (not_T (eqb q 0) (λ b. i (eqb→eq q 0 b))))
                     ]
               ]
@@ -215,7 +215,7 @@ module _
           | inl z ↦ (fine q z l).start
           | inr z ↦
               elim (same? q 0) [
-                | inl e ↦ subst (λ (v : ℕ). (P (Q v).start).place ≡ v) (sym e) root-start
+                | inl e ↦ subst (λ (v : ℕ). (P (Q v).start).place ≡ v) (sym e) root_start
                 | inr e ↦ absurd (z (not_T (eqb q 0) (λ b. e (eqb→eq q 0 b))))
               ]
         ]

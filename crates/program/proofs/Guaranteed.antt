@@ -114,11 +114,11 @@ module _ (W : ℕ → Type 0) (us : Nodes) (h : Named W us) where
 laid_bounded : (us : Nodes) → Named (λ w. Unit {0}) us → Limits us → Bounded (laid_out us)
 laid_bounded us h f =
     let m = many us in
-    let cells-few = f.0 in
-    let branches-few = f.2 in (
+    let cells_few = f.0 in
+    let branches_few = f.2 in (
       omega arith,
       omega arith,
-      cells-few,
+      cells_few,
       λ x. (point_at (λ w. Unit {0}) us h x).0,
       λ x. (point_at (λ w. Unit {0}) us h x).1,
       refl,

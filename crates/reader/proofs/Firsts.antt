@@ -26,8 +26,8 @@ same_true (x ∷ xs) (y ∷ ys) e =
     let t = same_true xs ys p.1 in
     cc
 
-pub lexeme-eq : {c d : Class} {v w : List ℕ} {o : ℕ} → c ≡ d → v ≡ w → ◌≡◌ {A = Lexeme} (record { class = c; text = v; at = o }) (record { class = d; text = w; at = o })
-lexeme-eq p q = cc
+pub lexeme_eq : {c d : Class} {v w : List ℕ} {o : ℕ} → c ≡ d → v ≡ w → ◌≡◌ {A = Lexeme} (record { class = c; text = v; at = o }) (record { class = d; text = w; at = o })
+lexeme_eq p q = cc
 
 -- a tag with one spelling
 pub record Spelt (t : Tag) : Type 0 where
@@ -67,14 +67,14 @@ module _ (text : List ℕ) (at n : ℕ) where
       let p : part text at n ≡ w = ap (λ (m : ℕ). take m (drop at text)) e ∙ run_take letter_or_digit (drop at text) in
       let k' : t ≡ word_tag w = k ∙ ap word_tag p in
       subst (λ (f : First). Shows text at f (Ok (record { tag = t; at = at; len = n }))) (sym (cond-true (leb (length w) 16) (lexeme (word_class w) w) nothing (le-leb (length w) 16 (omega arith))))
-      (lexeme-eq (ap class_of k' ∙ word_class_is w) (ap (λ (v : List ℕ). spelled v t) p ∙ ap (spelled w) k' ∙ word_spelled w), e)
+      (lexeme_eq (ap class_of k' ∙ word_class_is w) (ap (λ (v : List ℕ). spelled v t) p ∙ ap (spelled w) k' ∙ word_spelled w), e)
 
   pub number_shows : n ≡ length (run digit (drop at text)) → n ≤ 10 → Shows text at (up_to 10 number (run digit (drop at text))) (Ok (record { tag = tags.Number; at = at; len = n }))
   number_shows e h =
       let w = run digit (drop at text) in
       let p : part text at n ≡ w = ap (λ (m : ℕ). take m (drop at text)) e ∙ run_take digit (drop at text) in
       subst (λ (f : First). Shows text at f (Ok (record { tag = tags.Number; at = at; len = n }))) (sym (cond-true (leb (length w) 10) (lexeme number w) nothing (le-leb (length w) 10 (omega arith))))
-      (lexeme-eq refl p, e)
+      (lexeme_eq refl p, e)
 
 -- ---- by the first byte
 
@@ -192,7 +192,7 @@ module _ (text : List ℕ) (at : ℕ) (h : at < length text) where
   sign_here t e =
       let k = here (Sign t) e in
       shown (lexeme fixed (get_or text at 0 ∷ [])) (Ok (record { tag = t; at = at; len = 1 })) k.2
-      (lexeme-eq k.0.spelt.is_fixed (k.0.spelt.always (part text at 1) ∙ k.1), refl)
+      (lexeme_eq k.0.spelt.is_fixed (k.0.spelt.always (part text at 1) ∙ k.1), refl)
 
   pub equal_here : Equal ≡ start_of (get_or text at 0) → Shows text at (first_of (drop at text)) (Ok (equal_token text at))
   equal_here e =

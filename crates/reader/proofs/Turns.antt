@@ -17,7 +17,7 @@ use Rattle.reader.specs.Tokens.{Lexeme, First, space, nothing, lexeme, finish, b
 use Rattle.reader.specs.Views.{lexeme_of, lexemes, class_of}
 use Rattle.reader.specs.Reads.{next_at, first_of, Shows}
 use Rattle.reader.specs.Lists.{Within, Ended}
-use Rattle.reader.proofs.Firsts.{lexeme-eq}
+use Rattle.reader.proofs.Firsts.{lexeme_eq}
 use Rattle.reader.proofs.Nexts.{lexeme_parts, told, next_within, token_within}
 use Rattle.reader.proofs.Steps.{not_finish, solid, cons, tokens_skip, tokens_none, tokens_more}
 
@@ -103,7 +103,7 @@ module _ (text : List ℕ) (at : ℕ) (ts : List Token) (h : at ≤ length text)
     leads [] e =
         let p = told text (next_at text at) [] t (subst (λ (l : List ℕ). Shows text (next_at text at) (first_of l) (Ok t)) e s) in
         let q = lexeme_parts p.is in
-        let l : lexeme_of text t ≡ record { class = finish; text = []; at = next_at text at } = p.shows ∙ lexeme-eq (sym q.0) (sym q.1) in (
+        let l : lexeme_of text t ≡ record { class = finish; text = []; at = next_at text at } = p.shows ∙ lexeme_eq (sym q.0) (sym q.1) in (
           class_end t.tag (ap (λ (l : Lexeme). l.class) l),
           sym (to_here) ∙ ap (λ (xs : List ℕ). prepend (lexemes text ts) (tokens 0 (next_at text at) xs)) e
               ∙ ap (λ (k : Lexeme). Ok (lexemes text ts ++ (k ∷ []))) (sym l) ∙ ap (λ (k : List Lexeme). Ok k) (sym (lexemes_push text ts t)),
