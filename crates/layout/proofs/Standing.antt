@@ -6,7 +6,7 @@ use Rattle.tables.specs.declared.rows.Point as code-point
 use Rattle.unfold.specs.declared.nodes.Node as code-node
 use Rattle.unfold.specs.declared.nodes.Nodes as code-nodes
 use Rattle.unfold.specs.declared.nodes.Branches as code-branches
-use Rattle.unfold.specs.Unfolded.{Part, plain, calls, tests, loops, tries, takes, two, par}
+use Rattle.unfold.specs.Unfolded.{Part, plain, calls, tests, loops, tries, takes, two, par, Nodes}
 use Rattle.unfold.specs.Views.{node, nodes, branches}
 use Rattle.program.specs.Sizes.{node_size, size, node_places, how_many, entry}
 use Rattle.program.specs.Layout.{Point, Open, part_stm, part_after, part_catches, part_opens, branch_list, branch_copies, node_points, points, branch_points, ends, laid_out}
