@@ -17,7 +17,7 @@ pub record Got : Type 0 where
   pub home : ℕ
   pub from : Option ℕ
 
--- what stands before the blocks of a statement; a call has its copies and the names of its by_reference arguments
+-- what stands before the blocks of a statement; a call has its copies and the names of its by-reference arguments
 pub data Part : Type 0 where
   plain : Part
   calls : rules.Copies → List (List ℕ) → Part

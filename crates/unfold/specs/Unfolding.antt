@@ -40,14 +40,14 @@ use Rattle.unfold.specs.Variables.{got_env, all_get, all_new}
 
 -- ---- a call's arguments
 
--- What the parameters stand for, the copies of a call, the cells that it brings, and the names of its by_reference arguments.
+-- What the parameters stand for, the copies of a call, the cells that it brings, and the names of its by-reference arguments.
 pub record Passed : Type 0 where
   pub env : Env
   pub copies : rules.Copies
   pub news : List New
   pub refs : List (List ℕ)
 
--- a by_reference parameter has both cells of its argument
+-- a by-reference parameter has both cells of its argument
 abbrev pub by_reference : Param → Name → Binding → Passed → Passed
 by_reference p a b r =
     record {
@@ -57,7 +57,7 @@ by_reference p a b r =
       refs = a.text ∷ r.refs;
     }
 
--- a by_value parameter brings a new own cell, named as in the parameter list, and has its argument's home
+-- a by-value parameter brings a new own cell, named as in the parameter list, and has its argument's home
 abbrev pub by_value : Param → Binding → ℕ → Passed → Passed
 by_value p b c r =
     record {
@@ -128,7 +128,7 @@ abbrev pub branch_count : Blocks → ℕ
 branch_count Last = 0
 branch_count (Also a bs) = suc (branch_count bs)
 
--- A simple statement. `var` brings one cell that is both own and home. A call brings the cells of its by_value parameters
+-- A simple statement. `var` brings one cell that is both own and home. A call brings the cells of its by-value parameters
 -- and is followed by its procedure's block, which sees the parameters only.
 abbrev pub unfold_simple : Reading → Callees → Env → Count → ℕ → Simple → Answer (Node × Count)
 unfold_simple l f v n at (Var x) =

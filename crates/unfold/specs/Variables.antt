@@ -40,7 +40,7 @@ use Rattle.unfold.specs.Scopes.{Env, lookup}
 -- ---- what occurs in a branch
 
 -- The variables that stand in a branch, in order, and whether each is written there: left of `=`, as the target of take,
--- or as a by_reference argument. Any other occurrence reads it.
+-- or as a by-reference argument. Any other occurrence reads it.
 abbrev pub Uses : Type 0
 Uses = List (Name × Bool)
 
