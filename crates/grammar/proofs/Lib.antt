@@ -20,3 +20,4 @@ pub mod StatementGrammar
 pub mod BlockGrammar
 pub mod LocalExpressions
 pub mod LocalStatements
+pub mod Spelling

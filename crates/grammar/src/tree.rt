@@ -1,7 +1,9 @@
 // The tree of a text. Names and numbers are parts of the text; statements have their offsets.
 
+mod spelling;
+
 // A part of the text that is a name or a number.
-#[derive(Clone, Copy)]
+#[derive(Clone, Copy, PartialEq, Eq, Debug)]
 pub struct Name {
     pub at: usize,
     pub len: usize,

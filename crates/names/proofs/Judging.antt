@@ -27,7 +27,7 @@ use Rattle.names.specs.Sites.{
   Judged,
 }
 use Rattle.names.specs.Laws.{PassesWhenRight, RefusesFirstWrong}
-use Rattle.names.proofs.Spelling.{same_decides}
+use Rattle.grammar.proofs.Spelling.{same_decides}
 use Rattle.names.proofs.Checked.{fits, test, checked, named_is}
 
 clash : {A : Type 0} → true ≡ false → A

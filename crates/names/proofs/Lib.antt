@@ -1,5 +1,4 @@
 pub mod Binds
-pub mod Spelling
 pub mod Stacks
 pub mod Finding
 pub mod Declaring

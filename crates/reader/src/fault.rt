@@ -1,6 +1,6 @@
 // Why a text is refused. Each cause has the number that the rules give it.
 ghost use Rattle.std.specs.Prelude.{◌≡◌};
-ghost use Rattle.reader.specs.Faults.{number_of, stage_of, refused_for, no_memory};
+ghost use Rattle.reader.specs.Faults.{number_of, stage_of, must, refused_for, no_memory};
 
 use std::alloc::{AllocError, AllocFailed};
 
@@ -34,6 +34,18 @@ pub enum Cause {
     Uncaught = 23,
 }
 
+impl Cause {
+    // The refusal for this cause at an offset.
+    pub fn at(self, offset: usize) -> Fault
+        ensures { result ≡ record { cause = self; offset = offset } }
+    {
+        Fault {
+            cause: self,
+            offset,
+        }
+    }
+}
+
 // A refusal of a text: its cause, and the offset of the token or statement at fault.
 #[derive(Clone, Copy, PartialEq, Eq, Debug)]
 pub struct Fault {
@@ -61,6 +73,13 @@ impl Fault {
             Cause::WrittenTwice | Cause::ReferencedTwice | Cause::PortTwice | Cause::Uncaught => 5,
         }
     }
+}
+
+// What must hold, and the refusal where it does not.
+pub fn must(holds: bool, cause: Cause, offset: usize) -> Result<(), Fault>
+    ensures { result ≡ must holds cause offset }
+{
+    if holds { Ok(()) } else { Err(cause.at(offset)) }
 }
 
 // Why clearing failed: the text is refused, or memory ran out.

@@ -4,7 +4,7 @@ use lib.Dec.{not_T}
 use Rattle.lemmas.proofs.Tests.{T_and, and_T, T_or, or_l, or_r, T_true, eq_eqb}
 use Rattle.reader.specs.Tokens.{same, among}
 use Rattle.rules.specs.Programs.{elem}
-use Rattle.names.proofs.Spelling.{same_decides}
+use Rattle.grammar.proofs.Spelling.{same_decides}
 use Rattle.unfold.specs.Unfolded.{Got, Part, plain, calls, tests, loops, tries, takes, Node, one, throws, two, par, Nodes, nil, seq, Branches, last, also}
 use Rattle.unfold.specs.Sharing.{part_ports, node_ports, ports, branch_ports, none_in, none_among, names_distinct, writes}
 use Rattle.sharing.specs.Fairness.{In, At, Writes, PartPort, NodePort, Port, BranchPort, Once}

@@ -1,7 +1,7 @@
 use Rattle.std.proofs.Common.{ℕ, List, ap, ◌∙◌}
 use Rattle.std.proofs.lemmas.Slice.Eq.{slice_eq-Decides}
 use Rattle.reader.specs.Tokens.{same}
-use Rattle.names.proofs.Spelling.{same_decides, decided}
+use Rattle.grammar.proofs.Spelling.{same_decides, decided}
 use Rattle.layout.proofs.spelling.alike.Goals as goal
 use Rattle.std.proofs.lemmas.Bool.Decides.{Decides-eqb}
 
