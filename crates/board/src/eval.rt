@@ -13,7 +13,7 @@ pub fn value<K: NumberKind>(kind: &K, e: &Expr, cells: &[u32; 128]) -> u32
     ensures { result ≡ value K.NumberKind.meaning (λ c. slice_index cells.now c) (expr e.now) }
 {
     match e {
-        Expr::Own(c) => cells[*c as usize],
+        Expr::Own(c) => cells[*c],
         Expr::Word(w) => *w,
         Expr::Plus(a, b) => kind.sum(value(kind, a, cells), value(kind, b, cells)),
         Expr::Minus(a, b) => kind.difference(value(kind, a, cells), value(kind, b, cells)),

@@ -1,19 +1,10 @@
 -- The copies for the variables that a branch reads, from an index on.
-use Rattle.std.proofs.Common.{◌≡◌, ℕ, ◌+◌, ◌<◌, ◌≤◌, true, List, [], ◌∷◌, ◌++◌, length, get_or, drop, Some, None, Option, sym, refl, ap, ◌∙◌, append_assoc, append-nil}
+use Rattle.std.proofs.Common.{◌≡◌, ℕ, ◌+◌, ◌<◌, ◌≤◌, List, [], ◌∷◌, ◌++◌, length, get_or, drop, Some, None, Option, sym, refl, ap, ◌∙◌, append_assoc, append-nil}
 use Rattle.std.proofs.lemmas.List.{at_drop_more, at_drop_all}
-use Rattle.std.proofs.lemmas.Bool.{and_parts, and_from}
 use Rattle.rules.specs.Programs.{Copies}
 use Rattle.unfold.specs.declared.nodes.Got as code_got
 use Rattle.unfold.specs.Variables.{got_copies}
 use Rattle.unfold.specs.Views.{got, gots}
-use Rattle.layout.specs.Fits.{gots_fit}
-
-pub own_fits : (text : List ℕ) (gs : List code_got.Got) (i : ℕ) (d : code_got.Got) → i < length gs
-    → gots_fit (gots text (drop i gs)) ≡ true → (gots_fit (got text (get_or gs i d) ∷ []) ≡ true) × (gots_fit (gots text (drop (i + 1) gs)) ≡ true)
-own_fits text gs i d h k =
-    let e = at_drop_more (λ (xs : List code_got.Got). gots_fit (gots text xs)) gs i d h in
-    let p = and_parts _ _ (sym e ∙ k) in
-    (and_from _ true p.0 refl, p.1)
 
 -- one variable's copy, if it has one, then those of the others
 own_split : (o : Option ℕ) (c : ℕ) (xs : Copies)

@@ -6,7 +6,6 @@ ghost use Rattle.program.specs.Sizes.{branch_places};
 ghost use Rattle.program.specs.Layout.{branch_list, branch_copies};
 ghost use Rattle.unfold.specs.Variables.{got_copies};
 ghost use Rattle.unfold.specs.Views.{got, gots as variables, branches as all};
-ghost use Rattle.layout.specs.Fits.{gots_fit, branches_fit};
 
 use crate::counts::count;
 use std::alloc::{AllocError, Global};
@@ -33,22 +32,18 @@ fn push_numbers(
 
 // A new own cell copies the parent's.
 fn push_copy(text: &[u8], out: &mut Vec<Copied>, g: Got) -> Result<(), AllocError>
-    requires { gots_fit (got text.now g ∷ []) ≡ true }
     ensures { OnOk result (rows out.new.items ≡ rows out.old.items ++ got_copies (got text.now g ∷ [])) }
 {
     match g.from {
         None => Ok(()),
-        Some(old) => {
-            let to = g.own as u16;
-            let from = old as u16;
-            out.push(Copied { to, from })?;
+        Some(from) => {
+            out.push(Copied { to: g.own, from })?;
             Ok(())
         }
     }
 }
 
 fn push_copies(text: &[u8], out: &mut Vec<Copied>, gots: &[Got]) -> Result<(), AllocError>
-    requires { gots_fit (variables text.now gots.now) ≡ true }
     ensures { OnOk result (rows out.new.items ≡ rows out.old.items ++ got_copies (variables text.now gots.now)) }
 {
     for g in gots {
@@ -62,7 +57,6 @@ fn push_branch_copies(
     out: &mut Vec<Copied>,
     branches: &Branches,
 ) -> Result<(), AllocError>
-    requires { branches_fit (all text.now branches.now) ≡ true }
     ensures { OnOk result (rows out.new.items ≡ rows out.old.items ++ branch_copies (all text.now branches.now)) }
 {
     match branches {
@@ -76,8 +70,7 @@ fn push_branch_copies(
 
 // A par whose first branch is the place q.
 pub fn par_stmt(text: &[u8], heap: Global, branches: &Branches, q: u16) -> Result<Stmt, AllocError>
-    requires fit { branches_fit (all text.now branches.now) ≡ true }
-    requires few { q + branch_places (all text.now branches.now) ≤ 64 }
+    requires { q + branch_places (all text.now branches.now) ≤ 64 }
     ensures { IfOk result (λ s. ((x : ℕ) → stm x s ≡ opens (branch_list (all text.now branches.now) q) (branch_copies (all text.now branches.now)))) }
 {
     let mut numbers: Vec<u16> = Vec::new(heap);

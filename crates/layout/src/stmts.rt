@@ -6,7 +6,7 @@ ghost use Rattle.program.specs.Layout.{part_stm};
 ghost use Rattle.unfold.specs.Views.{action as acted, part as meant};
 ghost use Rattle.layout.specs.Fits.{part_fits};
 
-use crate::exprs::{copied, copy_expr};
+use crate::exprs::copy_expr;
 use std::alloc::{AllocError, Global};
 use tables::stmt::Stmt;
 use unfold::nodes::{Action, Part};
@@ -38,7 +38,7 @@ pub fn part_stmt(
 {
     match part {
         Part::Plain => Ok(Stmt::Goto(i)),
-        Part::Calls(transfers, _) => Ok(Stmt::Call(copied(heap, transfers.as_slice())?, i)),
+        Part::Calls(copies, _) => Ok(Stmt::Call(Vec::from_slice(heap, copies.as_slice())?, i)),
         Part::Tests(e) => Ok(Stmt::Test(copy_expr(heap, e)?, i, j)),
         Part::Loops(e) => Ok(Stmt::Test(copy_expr(heap, e)?, i, k)),
         Part::Tries(_) => Ok(Stmt::Try(i)),

@@ -2,7 +2,7 @@
 
 #[derive(Drop)]
 pub enum Expr {
-    Own(u16),
+    Own(usize),
     Word(u32),
     Plus(Box<Expr>, Box<Expr>),
     Minus(Box<Expr>, Box<Expr>),

@@ -4,8 +4,8 @@ use crate::expr::Expr;
 // A new own cell, and the cell whose word it gets.
 #[derive(Clone, Copy)]
 pub struct Copied {
-    pub to: u16,
-    pub from: u16,
+    pub to: usize,
+    pub from: usize,
 }
 
 #[derive(Drop)]

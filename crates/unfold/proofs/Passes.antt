@@ -11,13 +11,14 @@ use Rattle.grammar.specs.Trees.{Name, Param}
 use Rattle.grammar.specs.Views.{name, names, param, params}
 use Rattle.rules.specs.Programs as rules
 use Rattle.unfold.specs.declared.nodes.New as code-new
-use Rattle.unfold.specs.declared.nodes.Transfer as code-transfer
+use Rattle.tables.specs.declared.stmt.Copied.{Copied}
+use Rattle.tables.specs.Stms.{copies}
 use Rattle.unfold.specs.declared.scopes.Binding as code-binding
 use Rattle.unfold.specs.Unfolded.{New}
 use Rattle.unfold.specs.Scopes.{Binding, Env, stands}
 use Rattle.unfold.specs.Unfolding.{Passed, by_reference, by_value, passes}
 use Rattle.unfold.specs.Passing.{pass_by, brought}
-use Rattle.unfold.specs.Views.{env, news, new, copies, spellings, binding, Gives}
+use Rattle.unfold.specs.Views.{env, news, new, spellings, binding, Gives}
 use Rattle.unfold.proofs.Gains.{env_push, news_push}
 
 pub gives_err : {A B V W : Type 0} (f : V → A) (g : W → B) (e : Error) (m : Answer A) (k : A → Answer B) → Gives f (Err e) m → Gives g (Err e) (m >>= k)
@@ -28,16 +29,16 @@ pub bind_assoc : {A B C : Type 0} (m : Answer A) (f : A → Answer B) (g : B →
 bind_assoc (Ok a) f g = refl
 bind_assoc (Err e) f g = refl
 
-copies_push : (ts : List code-transfer.Transfer) (t : code-transfer.Transfer) → copies (ts ++ (t ∷ [])) ≡ copies ts ++ ((t.new, t.old) ∷ [])
+copies_push : (ts : List Copied) (t : Copied) → copies (ts ++ (t ∷ [])) ≡ copies ts ++ ((t.to, t.from) ∷ [])
 copies_push [] t = refl
-copies_push (s ∷ ts) t = ap (λ (xs : rules.Copies). (s.new, s.old) ∷ xs) (copies_push ts t)
+copies_push (s ∷ ts) t = ap (λ (xs : rules.Copies). (s.to, s.from) ∷ xs) (copies_push ts t)
 
 spellings_push : (text : List ℕ) (ns : List code-name.Name) (n : code-name.Name) → spellings text (ns ++ (n ∷ [])) ≡ spellings text ns ++ ((name text n).text ∷ [])
 spellings_push text [] n = refl
 spellings_push text (m ∷ ns) n = ap (λ (xs : List (List ℕ)). (name text m).text ∷ xs) (spellings_push text ns n)
 
 -- what was passed, by its lists
-abbrev pub listed : List ℕ → List code-binding.Binding → List code-transfer.Transfer → List code-new.New → List code-name.Name → Passed → Passed
+abbrev pub listed : List ℕ → List code-binding.Binding → List Copied → List code-new.New → List code-name.Name → Passed → Passed
 listed text E C N R r = record { env = env text E ++ r.env; copies = copies C ++ r.copies; news = news text N ++ r.news; refs = spellings text R ++ r.refs }
 
 same_passed : (e e' : Env) (c c' : rules.Copies) (n n' : List New) (r r' : List (List ℕ)) → e ≡ e' → c ≡ c' → n ≡ n' → r ≡ r'
@@ -45,7 +46,7 @@ same_passed : (e e' : Env) (c c' : rules.Copies) (n n' : List New) (r r' : List 
 same_passed e e' c c' n n' r r' p q s t = cc
 
 module _ (text : List ℕ) (p : code-param.Param) (a : code-name.Name) (b : code-binding.Binding) (k : ℕ)
-    (E E' : List code-binding.Binding) (C C' : List code-transfer.Transfer) (N N' : List code-new.New) (R R' : List code-name.Name) where
+    (E E' : List code-binding.Binding) (C C' : List Copied) (N N' : List code-new.New) (R R' : List code-name.Name) where
   pub ref_on : (t : Bool) → t ≡ true → E' ≡ E ++ (record { name = p.name; own = b.own; home = b.home } ∷ []) → R' ≡ R ++ (a ∷ [])
       → (r : Passed) → listed text E C N R (pass_by t (param text p) (name text a) (binding text b) k r) ≡ listed text E' C N R' r
   ref_on t h e f r =
@@ -56,12 +57,12 @@ module _ (text : List ℕ) (p : code-param.Param) (a : code-name.Name) (b : code
       refl refl
       (sym (append_assoc (spellings text R) ((name text a).text ∷ []) r.refs) ∙ ap (λ (z : List (List ℕ)). z ++ r.refs) (sym (spellings_push text R a) ∙ ap (spellings text) (sym f)))
 
-  pub value_on : (t : Bool) → t ≡ false → E' ≡ E ++ (record { name = p.name; own = k; home = b.home } ∷ []) → C' ≡ C ++ (record { new = k; old = b.own } ∷ [])
+  pub value_on : (t : Bool) → t ≡ false → E' ≡ E ++ (record { name = p.name; own = k; home = b.home } ∷ []) → C' ≡ C ++ (record { to = k; from = b.own } ∷ [])
       → N' ≡ N ++ (record { home = b.home; name = p.name } ∷ [])
       → (r : Passed) → listed text E C N R (pass_by t (param text p) (name text a) (binding text b) k r) ≡ listed text E' C' N' R r
   value_on t h e f g r =
       let x : code-binding.Binding = record { name = p.name; own = k; home = b.home } in
-      let y : code-transfer.Transfer = record { new = k; old = b.own } in
+      let y : Copied = record { to = k; from = b.own } in
       let z : code-new.New = record { home = b.home; name = p.name } in
       ap (λ (z : Bool). listed text E C N R (pass_by z (param text p) (name text a) (binding text b) k r)) h
       ∙ same_passed _ _ _ _ _ _ _ _
@@ -116,7 +117,7 @@ passes_end v text ps as' i c (inl h) = at_drop_all (λ (qs : List code-param.Par
 passes_end v text ps as' i c (inr h) =
     at_drop_all (λ (bs : List code-name.Name). passes v (params text (drop i ps)) (names text bs) c) as' i h ∙ no_more v (params text (drop i ps)) c
 
-pub listed_end : (text : List ℕ) (E : List code-binding.Binding) (C : List code-transfer.Transfer) (N : List code-new.New) (R : List code-name.Name)
+pub listed_end : (text : List ℕ) (E : List code-binding.Binding) (C : List Copied) (N : List code-new.New) (R : List code-name.Name)
     → listed text E C N R (record { env = []; copies = []; news = []; refs = [] }) ≡ record { env = env text E; copies = copies C; news = news text N; refs = spellings text R }
 listed_end text E C N R = same_passed _ _ _ _ _ _ _ _ (append-nil (env text E)) (append-nil (copies C)) (append-nil (news text N)) (append-nil (spellings text R))
 

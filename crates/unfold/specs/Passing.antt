@@ -10,7 +10,8 @@ use Rattle.unfold.specs.declared.passing.Passed as code-passed
 use Rattle.unfold.specs.declared.scopes.Binding as code-binding
 use Rattle.unfold.specs.Scopes.{Binding}
 use Rattle.unfold.specs.Unfolding.{Passed, by_reference, by_value}
-use Rattle.unfold.specs.Views.{env, news, copies, spellings, binding}
+use Rattle.tables.specs.Stms.{copies}
+use Rattle.unfold.specs.Views.{env, news, spellings, binding}
 
 abbrev pub passed : List ℕ → code-passed.Passed → Passed
 passed text s =

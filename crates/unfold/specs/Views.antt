@@ -6,11 +6,9 @@ use Rattle.reader.specs.Faults.{Answer}
 use Rattle.grammar.specs.declared.tree.Name as code-name
 use Rattle.grammar.specs.Views.{name}
 use Rattle.rules.specs.Programs as rules
+use Rattle.tables.specs.Stms.{expr, copies}
 use Rattle.unfold.specs.declared.nodes.New as code-new
 use Rattle.unfold.specs.declared.nodes.Got as code_got
-use Rattle.unfold.specs.declared.nodes.Transfer as code-transfer
-use Rattle.unfold.specs.declared.nodes.Expr as code-expr
-use Rattle.unfold.specs.declared.nodes.Expr.TheVariants as exprs
 use Rattle.unfold.specs.declared.nodes.Action as code-action
 use Rattle.unfold.specs.declared.nodes.Action.TheVariants as actions
 use Rattle.unfold.specs.declared.nodes.Part as code-part
@@ -64,22 +62,9 @@ abbrev pub gots : List ℕ → List code_got.Got → List Got
 gots text [] = []
 gots text (g ∷ gs) = got text g ∷ gots text gs
 
-abbrev pub copies : List code-transfer.Transfer → rules.Copies
-copies [] = []
-copies (t ∷ ts) = (t.new, t.old) ∷ copies ts
-
 abbrev pub spellings : List ℕ → List code-name.Name → List (List ℕ)
 spellings text [] = []
 spellings text (n ∷ ns) = (name text n).text ∷ spellings text ns
-
-abbrev pub expr : code-expr.Expr → rules.Expr
-expr (exprs.Own c) = rules.own c
-expr (exprs.Word w) = rules.word w
-expr (exprs.Plus' p a q b) = rules.plus (expr a) (expr b)
-expr (exprs.Minus' p a q b) = rules.minus (expr a) (expr b)
-expr (exprs.Times' p a q b) = rules.times (expr a) (expr b)
-expr (exprs.Below' p a q b) = rules.below (expr a) (expr b)
-expr (exprs.Same' p a q b) = rules.same (expr a) (expr b)
 
 abbrev pub action : code-action.Action → rules.Stm
 action (actions.Var c) = rules.var c

@@ -3,9 +3,9 @@ ghost use Rattle.std.specs.Prelude.{◌≡◌};
 ghost use Rattle.grammar.specs.Views.{exp, operator as meant};
 ghost use Rattle.numbers.specs.Literals.{literal_reading};
 ghost use Rattle.unfold.specs.Scopes.{resolved, joined};
-ghost use Rattle.unfold.specs.Views.{env, expr, Gives};
+ghost use Rattle.tables.specs.Stms.{expr};
+ghost use Rattle.unfold.specs.Views.{env, Gives};
 
-use crate::nodes::Expr;
 use crate::scopes::{Binding, resolve_name};
 use crate::spelling::bytes;
 use grammar::tree;
@@ -14,13 +14,14 @@ use numbers::kind::NumberKind;
 use numbers::literal::read_literal;
 use reader::fault::{Cause, Error, Fault};
 use std::alloc::Global;
+use tables::expr::Expr;
 
 fn join(operator: Operator, left: Box<Expr>, right: Box<Expr>) -> Expr
     ensures { expr result ≡ joined (meant operator) (expr left.value) (expr right.value) }
 {
     match operator {
         Operator::Same => Expr::Same(left, right),
-        Operator::Less => Expr::Below(left, right),
+        Operator::Less => Expr::Less(left, right),
         Operator::Plus => Expr::Plus(left, right),
         Operator::Minus => Expr::Minus(left, right),
         Operator::Times => Expr::Times(left, right),

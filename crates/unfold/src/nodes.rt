@@ -1,5 +1,7 @@
 // The unfolded text: a tree of statements over cells, in which each call is followed by its procedure's block.
 use grammar::tree::Name;
+use tables::expr::Expr;
+use tables::stmt::Copied;
 
 // A cell that a statement brings: its home, and the name recorded there.
 #[derive(Clone, Copy)]
@@ -17,25 +19,6 @@ pub struct Got {
     pub from: Option<usize>,
 }
 
-// A new own cell, and the own cell that it copies.
-#[derive(Clone, Copy)]
-pub struct Transfer {
-    pub new: usize,
-    pub old: usize,
-}
-
-// An expression over own cells and words.
-#[derive(Drop)]
-pub enum Expr {
-    Own(usize),
-    Word(u32),
-    Plus(Box<Expr>, Box<Expr>),
-    Minus(Box<Expr>, Box<Expr>),
-    Times(Box<Expr>, Box<Expr>),
-    Below(Box<Expr>, Box<Expr>),
-    Same(Box<Expr>, Box<Expr>),
-}
-
 // What a statement without blocks does.
 #[derive(Drop)]
 pub enum Action {
@@ -49,7 +32,7 @@ pub enum Action {
 #[derive(Drop)]
 pub enum Part {
     Plain,
-    Calls(Vec<Transfer>, Vec<Name>),
+    Calls(Vec<Copied>, Vec<Name>),
     Tests(Expr),
     Loops(Expr),
     Tries(Name),

@@ -5,17 +5,18 @@ ghost use Rattle.unfold.specs.Unfolding.{passes};
 ghost use Rattle.unfold.specs.Passing.{passed, PassesOn};
 ghost use Rattle.unfold.specs.Views.{env, Gives};
 
-use crate::nodes::{New, Transfer};
+use crate::nodes::New;
 use crate::scopes::{Binding, resolve_name};
 use grammar::tree::{Name, Param};
 use reader::fault::Error;
 use std::alloc::Global;
+use tables::stmt::Copied;
 
 // What the parameters stand for, the copies of a call, the cells that it brings, and its by-reference arguments.
 #[derive(Drop)]
 pub struct Passed {
     pub env: Vec<Binding>,
-    pub copies: Vec<Transfer>,
+    pub copies: Vec<Copied>,
     pub news: Vec<New>,
     pub refs: Vec<Name>,
 }
@@ -47,9 +48,9 @@ fn pass_one(
         own,
         home: b.home,
     })?;
-    s.copies.push(Transfer {
-        new: own,
-        old: b.own,
+    s.copies.push(Copied {
+        to: own,
+        from: b.own,
     })?;
     s.news.push(New {
         home: b.home,

@@ -58,7 +58,7 @@ impl State {
         let old = self.cells;
         for i in (0..list.len()).rev() {
             let c = list[i];
-            self.cells[c.to as usize] = old[c.from as usize];
+            self.cells[c.to] = old[c.from];
         }
     }
 

@@ -1,5 +1,5 @@
 use Rattle.std.proofs.Common.{◌+◌, ◌*◌}
-use Rattle.unfold.proofs.nodes.Expr.TheLaws.{the_size}
+use Rattle.tables.proofs.expr.Expr.TheLaws.{the_size}
 use Rattle.layout.proofs.exprs.+copy_boxed_copy_expr.Given as goal
 
 abbrev pub decreases-copy_boxed : goal.decreases-copy_boxed

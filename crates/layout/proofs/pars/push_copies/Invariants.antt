@@ -1,11 +1,9 @@
-use Rattle.std.proofs.Common.{◌≡◌, true, ◌++◌, drop, vec_items}
+use Rattle.std.proofs.Common.{◌≡◌, ◌++◌, drop, vec_items}
 use Rattle.tables.specs.Stms.{copies}
 use Rattle.unfold.specs.Variables.{got_copies}
 use Rattle.unfold.specs.Views.{gots}
-use Rattle.layout.specs.Fits.{gots_fit}
 use Rattle.layout.proofs.pars.push_copies.Given as goal
 
 abbrev pub invariant-loop-g : goal.invariant-loop-g
 invariant-loop-g l =
-    (copies (vec_items l.out) ++ got_copies (gots l.text (drop l.g-index l.gots)) ≡ copies (vec_items l.initial.out) ++ got_copies (gots l.text l.gots))
-    × (gots_fit (gots l.text (drop l.g-index l.gots)) ≡ true)
+    copies (vec_items l.out) ++ got_copies (gots l.text (drop l.g-index l.gots)) ≡ copies (vec_items l.initial.out) ++ got_copies (gots l.text l.gots)

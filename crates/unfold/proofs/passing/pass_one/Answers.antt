@@ -29,7 +29,7 @@ returns c =
     let k = c.args.first + length N in
     let x : code-new.New = record { home = b.home; name = p.name } in
     let e : vec_items c.push-2.new.self ≡ E ++ (record { name = p.name; own = k; home = b.home } ∷ []) = search rules in
-    let f : vec_items c.push-3.new.self ≡ C ++ (record { new = k; old = b.own } ∷ []) = search rules in
+    let f : vec_items c.push-3.new.self ≡ C ++ (record { to = k; from = b.own } ∷ []) = search rules in
     let g : vec_items c.push-4.new.self ≡ N ++ (x ∷ []) = search rules in (
       value_on c.args.text.now p c.args.a b k E (vec_items c.push-2.new.self) C (vec_items c.push-3.new.self) N (vec_items c.push-4.new.self) (vec_items s.refs) (vec_items s.refs)
           p.reference c.if-p.false e f g,

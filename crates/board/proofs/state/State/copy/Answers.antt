@@ -14,6 +14,12 @@ bounds-old-c c = (copies_at c.args.list.now (c.loop-i.i - 1) c.requires (omega a
 pub bounds-self-c : goal.bounds-self-c
 bounds-self-c c = (copies_at c.args.list.now (c.loop-i.i - 1) c.requires (omega arith)).0
 
+pub offset_bounds-old-c : goal.offset_bounds-old-c
+offset_bounds-old-c c = let h = copies_at c.args.list.now (c.loop-i.i - 1) c.requires (omega arith) in omega (arith, h.1)
+
+pub offset_bounds-self-c : goal.offset_bounds-self-c
+offset_bounds-self-c c = let h = copies_at c.args.list.now (c.loop-i.i - 1) c.requires (omega arith) in omega (arith, h.0)
+
 pub loop-i-preserved : goal.loop-i-preserved
 loop-i-preserved c =
     let e = c.args.self.now in
