@@ -1,4 +1,3 @@
 pub mod Literals
 pub mod ReadBack
 pub mod Readings
-pub mod Writing

@@ -7,6 +7,9 @@ use crate::digits::Digits;
 use crate::digits::writing::decimal_digits;
 use crate::kind::NumberKind;
 
+// How many numbers there are.
+const SIZE: u32 = 100_000_000;
+
 #[derive(Clone, Copy)]
 pub struct Decimal;
 
@@ -57,19 +60,16 @@ impl NumberKind for Decimal {
     }
 
     fn sum(&self, x: u32, y: u32) -> u32 {
-        word_of(8, (number_of(8, x) + number_of(8, y)) % 100_000_000)
+        word_of(8, (number_of(8, x) + number_of(8, y)) % SIZE)
     }
 
     fn difference(&self, x: u32, y: u32) -> u32 {
-        word_of(
-            8,
-            (number_of(8, x) + (200_000_000 - number_of(8, y))) % 100_000_000,
-        )
+        word_of(8, (number_of(8, x) + (2 * SIZE - number_of(8, y))) % SIZE)
     }
 
     fn product(&self, x: u32, y: u32) -> u32 {
         let exact = number_of(8, x) as u64 * number_of(8, y) as u64;
-        word_of(8, (exact % 100_000_000) as u32)
+        word_of(8, (exact % SIZE as u64) as u32)
     }
 
     fn less(&self, x: u32, y: u32) -> bool {
@@ -77,11 +77,7 @@ impl NumberKind for Decimal {
     }
 
     fn literal(&self, n: u64) -> Option<u32> {
-        if n < 100_000_000 {
-            Some(word_of(8, n as u32))
-        } else {
-            None
-        }
+        (n < SIZE as u64).then(|| word_of(8, n as u32))
     }
 
     fn written(&self, word: u32) -> Digits {
