@@ -4,10 +4,10 @@
 mod exprs;
 pub mod laws;
 mod literals;
-mod part;
 mod procs;
 mod stmts;
 mod vars;
+pub mod visible;
 mod whole;
 
 pub use crate::whole::check_names;

@@ -4,20 +4,14 @@ ghost use Rattle.grammar.specs.Views.{name};
 ghost use Rattle.names.specs.Naming.{find_proc};
 ghost use Rattle.names.specs.Scopes.{ended, arity};
 
-use crate::part::alike;
+use crate::visible;
 use grammar::tree::{Name, Proc};
 
 // How many parameters the visible procedure of a name has, if there is one.
 pub fn parameter_count(text: &[u8], procs: &[Proc], n: Name) -> Option<usize>
     ensures { result ≡ arity (find_proc (ended text.now procs.now) (name text.now n).text) }
 {
-    let mut i = procs.len();
-    while i > 0 {
-        i -= 1;
-        let p = &procs[i];
-        if alike(text, n, p.name) {
-            return Some(p.params.len());
-        }
-    }
-    None
+    let place = visible::find_proc(text, procs, n)?;
+    let p = &procs[place];
+    Some(p.params.len())
 }
