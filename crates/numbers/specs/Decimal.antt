@@ -17,6 +17,11 @@ abbrev pub pack : ℕ → ℕ → ℕ
 pack zero n = 0
 pack (suc k) n = n % 10 + 16 * pack k (n / 10)
 
+-- The number that the k lowest digits of n in base b write in base c.
+abbrev pub rebase : ℕ → ℕ → ℕ → ℕ → ℕ
+rebase b c zero n = 0
+rebase b c (suc k) n = n % b + c * rebase b c k (n / b)
+
 -- How many numbers there are.
 abbrev pub size : ℕ
 size = 100000000
