@@ -7,7 +7,7 @@ use crate::digits::Digits;
 use crate::digits::writing::{decimal_digits, negative_digits};
 use crate::kind::NumberKind;
 
-#[derive(Clone, Copy)]
+#[derive(Clone, Copy, Debug, Default, PartialEq, Eq)]
 pub struct Binary;
 
 impl NumberKind for Binary {
