@@ -11,7 +11,7 @@ use Rattle.grammar.specs.Parsers.{Tokens, Parser, here, rest, if_so, eat, a_name
 use Rattle.grammar.specs.Parsing.{in_parens, more_names, of_name}
 use Rattle.grammar.specs.Readers.{opened, ended_name, level_at, arguments_at, caught_at, called_at, set_at, call_at, named_at}
 use Rattle.reader.specs.Views.{lexemes}
-use Rattle.grammar.specs.Reading.{next_token, after_next, Taken, in_front}
+use Rattle.grammar.specs.Reading.{next_token, Taken, NotTaken, in_front}
 use Rattle.grammar.proofs.Tags.{seen, unseen, rest_from, is_from}
 
 -- what stands in parentheses
@@ -107,10 +107,18 @@ module _ (text : List ℕ) (ts : List Token) where
   abbrev Target : ℕ → Name → Bool → Answer (Stm × Tokens)
   Target room v b = if_so b (λ w. set_at room v (rest (lexemes text ts))) (λ w. call_at room v (lexemes text ts))
 
-  pub named_set : (room : ℕ) (v : Name) → (next_token ts).tag ≡ tags.Assign → named_at room v (lexemes text ts) ≡ set_at room v (lexemes text (after_next ts))
+  pub named_set : (us : List Token) (room : ℕ) (v : Name) → Taken tags.Assign ts us
+      → named_at room v (lexemes text ts) ≡ (level_at room 4 (lexemes text us) >>= (λ e. eat (codes ";") e.1 >>= (λ t. Ok (One v.at (Set v e.0), t))))
   unfolding named_at set_at call_at
-  named_set room v h = ap (Target room v) (is_from text tags.Assign refl ts ∙ seen ts tags.Assign h) ∙ ap (set_at room v) (rest_from text ts)
+  named_set us room v h =
+      ap (Target room v) (is_from text tags.Assign refl ts ∙ seen ts tags.Assign h.0)
+      ∙ ap (set_at room v) (rest_from text ts ∙ ap (lexemes text) (sym h.1))
+      ∙ set_step room v (lexemes text us)
 
-  pub named_call : (room : ℕ) (v : Name) → ((next_token ts).tag ≡ tags.Assign → ⊥) → named_at room v (lexemes text ts) ≡ call_at room v (lexemes text ts)
+  pub named_call : (us : List Token) (room : ℕ) (v : Name) → NotTaken tags.Assign ts us
+      → named_at room v (lexemes text ts) ≡ (called_at room (lexemes text us) >>= (λ a. eat (codes ";") a.1 >>= (λ t. Ok (One v.at (Call v a.0), t))))
   unfolding named_at set_at call_at
-  named_call room v n = ap (Target room v) (is_from text tags.Assign refl ts ∙ unseen ts tags.Assign n)
+  named_call us room v h =
+      ap (Target room v) (is_from text tags.Assign refl ts ∙ unseen ts tags.Assign h.0)
+      ∙ ap (λ u. call_at room v (lexemes text u)) (sym h.1)
+      ∙ call_step room v (lexemes text us)

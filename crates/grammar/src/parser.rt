@@ -42,10 +42,7 @@ impl<'a> Parser<'a> {
     pub fn peek(&self) -> Token
         ensures { result ≡ next_token self.now.rest.now }
     {
-        match self.rest.first() {
-            Some(token) => *token,
-            None => END,
-        }
+        self.rest.first().copied().unwrap_or(END)
     }
 
     // Takes the next token.
@@ -124,7 +121,7 @@ impl<'a> Parser<'a> {
         if self.takes(tag) {
             Ok(Name::from(word))
         } else {
-            Err(Error::Refused(Cause::NotAllowed.at(word.at)))
+            Err(self.refuse(Cause::NotAllowed))
         }
     }
 

@@ -10,4 +10,4 @@ returns-then-takes-clause-tells c text =
 pub returns-else-takes-clause-tells : goal.returns-else-takes-clause-tells
 returns-else-takes-clause-tells c text =
     let p = c.takes.ensures.no c.if-takes.false in
-    refuses (rw (c.at.ensures, c.peek-word.ensures) refl) (word_no text c.args.self.now.rest.now c.args.tag c.requires p.0)
+    refuses (rw (c.refuse.ensures, p.1) refl) (word_no text c.args.self.now.rest.now c.args.tag c.requires p.0)
