@@ -1,7 +1,7 @@
 -- The visible procedures.
 use Rattle.std.proofs.Common.{◌≡◌, ℕ, suc, Bool, true, false, eqb, List, [], ◌∷◌, ◌++◌, length, get_or, take, Some, None, Option, vec_items, sym, refl, ap, ◌∙◌}
-use Rattle.reader.specs.declared.fault.Cause.TheVariants.{NotVisible, ArgumentCount}
-use Rattle.reader.specs.Faults.{◌>>=◌, must, refuse}
+use Rattle.reader.specs.declared.fault.Cause.TheVariants.{ArgumentCount}
+use Rattle.reader.specs.Faults.{◌>>=◌, must}
 use Rattle.grammar.specs.declared.tree.Name as code-name
 use Rattle.grammar.specs.declared.tree.Param as code-param
 use Rattle.grammar.specs.declared.tree.Proc as code-proc
@@ -37,14 +37,11 @@ pub length_names : (text : List ℕ) (ns : List code-name.Name) → length (name
 length_names text [] = refl
 length_names text (n ∷ ns) = ap suc (length_names text ns)
 
--- a call by how many parameters its procedure has
-pub call_none : (v : Scope) (o : Option Proc) (n : Name) (as' : List Name) → None ≡ arity o → names_call v o n as' ≡ refuse NotVisible n.at
-call_none v None n as' e = refl
-call_none v (Some p) n as' e = absurd (let z : ◌≡◌ {A = ℕ} 0 1 = cc in omega native.Mathlib.Omega.arith)
-
-pub call_some : (v : Scope) (o : Option Proc) (n : Name) (as' : List Name) (k : ℕ) → Some k ≡ arity o
-    → names_call v o n as' ≡ (must (eqb k (length as')) ArgumentCount n.at >>= (λ u. all_visible v as'))
-call_some v None n as' k e = absurd (let z : ◌≡◌ {A = ℕ} 0 1 = cc in omega native.Mathlib.Omega.arith)
-call_some v (Some p) n as' k e =
+-- a call of a procedure with so many parameters
+pub call_some : (text : List ℕ) (v : Scope) (o : Option Proc) (n : Name) (ns : List code-name.Name) (k : ℕ) → Some k ≡ arity o
+    → names_call v o n (names text ns) ≡ (must (eqb k (length ns)) ArgumentCount n.at >>= (λ u. all_visible v (names text ns)))
+call_some text v None n ns k e = absurd (let z : Some k ≡ None = e in cc)
+call_some text v (Some p) n ns k e =
     let i : length p.params ≡ k = cc in
-    ap (λ (m : ℕ). must (eqb m (length as')) ArgumentCount n.at >>= (λ u. all_visible v as')) i
+    ap (λ (m : ℕ). must (eqb m (length (names text ns))) ArgumentCount n.at >>= (λ u. all_visible v (names text ns))) i
+    ∙ ap (λ (m : ℕ). must (eqb k m) ArgumentCount n.at >>= (λ u. all_visible v (names text ns))) (length_names text ns)

@@ -1,12 +1,11 @@
 // The third stage of clearing: names, arguments, literals and ports.
 #![tactic(auto)]
 
+mod checker;
 mod exprs;
 pub mod laws;
 mod literals;
-mod procs;
 mod stmts;
-mod vars;
 pub mod visible;
 mod whole;
 
