@@ -1,5 +1,5 @@
 // What the places got at their starts.
-ghost use Rattle.std.specs.Prelude.{◌≡◌, true, ◌++◌, OnOk};
+ghost use Rattle.std.specs.Prelude.{◌≡◌, ℕ, true, List, ◌++◌, OnOk};
 ghost use Rattle.unfold.specs.Views.{gots as variables};
 ghost use Rattle.layout.specs.Fits.{gots_fit};
 ghost use Rattle.layout.specs.Given.{ReadOff, given};
@@ -9,14 +9,9 @@ use tables::rows::Got;
 use unfold::nodes;
 
 // What the place q got.
-pub fn push_got(
-    text: &[u8],
-    out: &mut Vec<Got>,
-    q: u16,
-    gots: &[nodes::Got],
-) -> Result<(), AllocError>
-    requires { gots_fit (variables text.now gots.now) ≡ true }
-    ensures { OnOk result (out.new.items ≡ out.old.items ++ given q (variables text.now gots.now)) }
+pub fn push_got(out: &mut Vec<Got>, q: u16, gots: &[nodes::Got]) -> Result<(), AllocError>
+    requires { (text : List ℕ) × (gots_fit (variables text gots.now) ≡ true) }
+    ensures { (text : List ℕ) → OnOk result (out.new.items ≡ out.old.items ++ given q (variables text gots.now)) }
 {
     for g in gots {
         out.push(Got {

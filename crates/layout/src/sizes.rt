@@ -7,20 +7,21 @@ use unfold::nodes::{Branches, Node, Nodes};
 
 // How many statements, where a block that belongs to one counts nothing, and how many places, one for each branch of a
 // par, as far as a number counts.
-#[derive(Clone, Copy)]
+#[derive(Clone, Copy, Default)]
 pub(crate) struct Extent {
     pub(crate) statements: u16,
     pub(crate) places: u16,
 }
 
-// Both together.
-fn sum(a: Extent, b: Extent) -> Extent
-    ensures statements { result.statements ≡ min (a.statements + b.statements) (2 ^ 16 - 1) }
-    ensures places { result.places ≡ min (a.places + b.places) (2 ^ 16 - 1) }
-{
-    Extent {
-        statements: a.statements.saturating_add(b.statements),
-        places: a.places.saturating_add(b.places),
+impl Extent {
+    fn with(self, other: Extent) -> Extent
+        ensures statements { result.statements ≡ min (self.statements + other.statements) (2 ^ 16 - 1) }
+        ensures places { result.places ≡ min (self.places + other.places) (2 ^ 16 - 1) }
+    {
+        Extent {
+            statements: self.statements.saturating_add(other.statements),
+            places: self.places.saturating_add(other.places),
+        }
     }
 }
 
@@ -35,11 +36,10 @@ pub(crate) fn node_extent(u: &Node) -> Extent
     };
     match u {
         Node::One(_, _, _) | Node::Throws(_, _) => one,
-        Node::Two(_, _, _, first, second) => sum(
-            one,
-            sum(block_extent(first), block_extent(second)),
-        ),
-        Node::Par(_, _, branches) => sum(one, branch_extent(branches)),
+        Node::Two(_, _, _, first, second) => one
+            .with(block_extent(first))
+            .with(block_extent(second)),
+        Node::Par(_, _, branches) => one.with(branch_extent(branches)),
     }
 }
 
@@ -49,11 +49,8 @@ pub(crate) fn block_extent(us: &Nodes) -> Extent
     ensures places { (text : List ℕ) → result.places ≡ min (how_many (meant text us.now)) (2 ^ 16 - 1) }
 {
     match us {
-        Nodes::Nil => Extent {
-            statements: 0,
-            places: 0,
-        },
-        Nodes::Seq(u, rest) => sum(node_extent(u), block_extent(rest)),
+        Nodes::Nil => Extent::default(),
+        Nodes::Seq(u, rest) => node_extent(u).with(block_extent(rest)),
     }
 }
 
@@ -63,20 +60,14 @@ fn branch_extent(branches: &Branches) -> Extent
     ensures places { (text : List ℕ) → result.places ≡ min (branch_places (all text branches.now)) (2 ^ 16 - 1) }
 {
     match branches {
-        Branches::Last => Extent {
-            statements: 0,
-            places: 0,
-        },
-        Branches::Also(_, us, rest) => sum(
-            sum(
-                block_extent(us),
-                Extent {
-                    statements: 0,
-                    places: 1,
-                },
-            ),
-            branch_extent(rest),
-        ),
+        Branches::Last => Extent::default(),
+        Branches::Also(_, us, rest) => {
+            let branch = Extent {
+                statements: 0,
+                places: 1,
+            };
+            branch.with(block_extent(us)).with(branch_extent(rest))
+        }
     }
 }
 

@@ -1,6 +1,6 @@
 // The walk over the unfolded text, which lays out its rows in the order of the text: the number of a point or of a place
 // is how many there are before it.
-ghost use Rattle.std.specs.Prelude.{◌≡◌, ◌+◌, ◌≤◌, true, length, OnOk};
+ghost use Rattle.std.specs.Prelude.{◌≡◌, ℕ, ◌+◌, ◌≤◌, true, List, length, OnOk};
 ghost use Rattle.tables.specs.Stms.{stm};
 ghost use Rattle.program.specs.Sizes.{node_size, size, branch_size, node_places, how_many, branch_places};
 ghost use Rattle.unfold.specs.Views.{gots as variables, news as fresh, node, nodes as meant, branches as all};
@@ -31,6 +31,36 @@ pub struct Rows {
     pub got: Vec<Got>,
 }
 
+impl Rows {
+    // The number of the point that comes next, and of the place.
+    fn next_point(&self) -> u16
+        requires { length self.now.points.items ≤ 1024 }
+        ensures { result ≡ length self.now.points.items }
+    {
+        self.points.len() as u16
+    }
+
+    pub fn next_place(&self) -> u16
+        requires { length self.now.places.items ≤ 64 }
+        ensures { result ≡ length self.now.places.items }
+    {
+        self.places.len() as u16
+    }
+
+    // The next place, and what it got.
+    fn put_place(&mut self, place: Place, gots: &[nodes::Got]) -> Result<(), AllocError>
+        requires fit { (text : List ℕ) × (gots_fit (variables text gots.now) ≡ true) }
+        requires few { length self.old.places.items ≤ 64 }
+        ensures points { OnOk result (length self.new.points.items ≡ length self.old.points.items) }
+        ensures places { OnOk result (length self.new.places.items ≡ length self.old.places.items + 1) }
+        ensures rows { (text : List ℕ) → OnOk result (so_far self.new ≡ more (so_far self.old) (begun (length self.old.places.items) place (variables text gots.now))) }
+    {
+        let q = self.next_place();
+        self.places.push(place)?;
+        push_got(&mut self.got, q, gots)
+    }
+}
+
 // What never changes in the walk; the end of the place q is the point ends + q.
 #[derive(Clone, Copy)]
 pub struct Plan<'a> {
@@ -59,24 +89,6 @@ impl<'a> Plan<'a> {
         push_news(self.text, &mut rows.cells, inside.place, news)
     }
 
-    // The next place, and what it got.
-    fn put_place(
-        &self,
-        rows: &mut Rows,
-        place: Place,
-        gots: &[nodes::Got],
-    ) -> Result<(), AllocError>
-        requires fit { gots_fit (variables self.now.text.now gots.now) ≡ true }
-        requires few { length rows.old.places.items ≤ 64 }
-        ensures points { OnOk result (length rows.new.points.items ≡ length rows.old.points.items) }
-        ensures places { OnOk result (length rows.new.places.items ≡ length rows.old.places.items + 1) }
-        ensures rows { OnOk result (so_far rows.new ≡ more (so_far rows.old) (begun (length rows.old.places.items) place (variables self.now.text.now gots.now))) }
-    {
-        let q = rows.places.len() as u16;
-        rows.places.push(place)?;
-        push_got(self.text, &mut rows.got, q, gots)
-    }
-
     #[cycle(walk)]
     fn put_node(
         &self,
@@ -94,7 +106,7 @@ impl<'a> Plan<'a> {
         ensures places { OnOk result (length rows.new.places.items ≡ length rows.old.places.items + node_places (node self.now.text.now u.now)) }
         ensures rows { OnOk result (so_far rows.new ≡ more (so_far rows.old) (node_rows self.now.ends inside.now.place inside.now.catches.now (all_held self.now.text.now inside.now.tries.now) (node self.now.text.now u.now) (length rows.old.places.items) (length rows.old.points.items) k)) }
     {
-        let o = rows.points.len() as u16;
+        let o = rows.next_point();
         match u {
             Node::One(at, news, action) => {
                 let stmt = action_stmt(self.heap, action)?;
@@ -108,7 +120,7 @@ impl<'a> Plan<'a> {
                 let after = leads_to(part, o, k);
                 let i = entry(first, o + 1, after);
                 let j = entry(second, o + 1 + block_extent(first).statements, k);
-                let stmt = part_stmt(self.text, self.heap, part, i, j, k)?;
+                let stmt = part_stmt(self.heap, part, i, j, k)?;
                 self.put_statement(rows, inside, stmt, k, *at, news)?;
                 let catches = inner_catches(self.heap, part, j, inside)?;
                 let tries = inner_tries(self.heap, part, j, inside)?;
@@ -121,7 +133,7 @@ impl<'a> Plan<'a> {
                 self.put_block(rows, inside, second, k)
             }
             Node::Par(at, news, branches) => {
-                let stmt = par_stmt(self.heap, branches, rows.places.len() as u16)?;
+                let stmt = par_stmt(self.heap, branches, rows.next_place())?;
                 self.put_statement(rows, inside, stmt, k, *at, news)?;
                 self.put_branches(rows, inside, o, branches)
             }
@@ -149,7 +161,7 @@ impl<'a> Plan<'a> {
         match us {
             Nodes::Nil => Ok(()),
             Nodes::Seq(u, rest) => {
-                let o = rows.points.len() as u16;
+                let o = rows.next_point();
                 let next = entry(rest, o + node_extent(u).statements, k);
                 self.put_node(rows, inside, u, next)?;
                 self.put_block(rows, inside, rest, k)
@@ -177,14 +189,14 @@ impl<'a> Plan<'a> {
         match branches {
             Branches::Last => Ok(()),
             Branches::Also(gots, us, rest) => {
-                let q = rows.places.len() as u16;
-                let start = entry(us, rows.points.len() as u16, self.ends + q);
+                let q = rows.next_place();
+                let start = entry(us, rows.next_point(), self.ends + q);
                 let place = Place {
                     parent: inside.place,
                     under: x,
                     start,
                 };
-                self.put_place(rows, place, gots)?;
+                rows.put_place(place, gots)?;
                 let within = Inside {
                     place: q,
                     catches: &[],

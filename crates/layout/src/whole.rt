@@ -46,7 +46,7 @@ fn lay_rows(text: &[u8], heap: Global, us: &Nodes) -> Result<Rows, AllocError>
         tries: &[],
     };
     Plan { text, heap, ends }.put_block(&mut rows, &main, us, ends)?;
-    let places = rows.places.len() as u16;
+    let places = rows.next_place();
     push_ends(heap, &mut rows.points, ends, places)?;
     Ok(rows)
 }

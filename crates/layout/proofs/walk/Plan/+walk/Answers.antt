@@ -20,7 +20,7 @@ put_block-returns-in_ok-put_node-in-Seq-clause-rows t c =
     let u = node text c.in-Seq.u.value in
     let vs = nodes text c.in-Seq.rest.value in
     let is = ap (nodes text) c.in-Seq.is in
-    let n = next_entry o k c.entry-next.result c.len-o.result c.node_extent.result.statements us u (node text c.deref-in-Seq.result.now) vs (nodes text c.deref.result.now)
+    let n = next_entry o k c.entry-next.result c.next_point-o.result c.node_extent.result.statements us u (node text c.deref-in-Seq.result.now) vs (nodes text c.deref.result.now)
     is (ap (node text) c.deref-in-Seq.ensures) (ap (nodes text) c.deref.ensures) c.requires.short (omega arith) (c.node_extent.ensures.statements text) (c.entry-next.ensures text) in
     seq_laid c.put_block.result c.args.self.now.ends c.args.inside.now.place c.args.inside.now.catches.now (all_held text c.args.inside.now.tries.now) q o k
     us u (node text c.deref-in-Seq-2.result.now) vs (nodes text c.deref-in-Seq-3.result.now) (length (vec_items mid.places)) (length (vec_items mid.points)) c.entry-next.result
@@ -32,7 +32,7 @@ put_branches-returns-in_ok-put_block-in-Also-clause-rows t c =
     let text = c.args.self.now.text.now in
     let e = c.args.self.now.ends in
     let was = c.args.rows.now in
-    let fst = c.put_place.new.rows in
+    let fst = c.put_place.new.self in
     let mid = c.put_block.new.rows in
     let q = length (vec_items was.places) in
     let o = length (vec_items was.points) in
@@ -42,13 +42,13 @@ put_branches-returns-in_ok-put_block-in-Also-clause-rows t c =
     let vs = branches text c.in-Also.rest.value in
     let is = ap (branches text) c.in-Also.is in
     let n : c.entry-start.result ≡ entry us o (e + q) =
-    also_entry o (e + q) c.entry-start.result c.len.result (e + c.len-q.result) bs g us (nodes text c.deref.result.now) vs is (ap (nodes text) c.deref.ensures) c.requires.short (omega arith) (omega arith) (c.entry-start.ensures text) in
+    also_entry o (e + q) c.entry-start.result c.next_point.result (e + c.next_place-q.result) bs g us (nodes text c.deref.result.now) vs is (ap (nodes text) c.deref.ensures) c.requires.short (omega arith) (omega arith) (c.entry-start.ensures text) in
     also_laid c.put_branches.result e c.args.inside.now.place c.args.x (all_held text c.args.inside.now.tries.now) q o bs g (gots text c.deref-in-Also.result.now) us (nodes text c.deref-in-Also-2.result.now) vs (branches text c.deref-in-Also-3.result.now)
-    c.entry-start.result [] c.len-q.result (length (vec_items fst.places)) (length (vec_items fst.points)) (length (vec_items mid.places)) (length (vec_items mid.points))
+    c.entry-start.result [] c.next_place-q.result (length (vec_items fst.places)) (length (vec_items fst.points)) (length (vec_items mid.places)) (length (vec_items mid.points))
     (rows was) (rows fst) (rows mid) (rows c.put_branches.new.rows)
     is (ap (gots text) c.deref-in-Also.ensures.value) (ap (nodes text) c.deref-in-Also-2.ensures) (ap (branches text) c.deref-in-Also-3.ensures) n refl
     (omega arith) c.in_ok-put_place-in-Also.ensures.places c.in_ok-put_place-in-Also.ensures.points c.in_ok-put_block-in-Also.ensures.places c.in_ok-put_block-in-Also.ensures.points
-    c.in_ok-put_place-in-Also.ensures.rows c.in_ok-put_block-in-Also.ensures.rows c.put_branches.ensures.rows
+    (c.in_ok-put_place-in-Also.ensures.rows text) c.in_ok-put_block-in-Also.ensures.rows c.put_branches.ensures.rows
 
 pub put_node-returns-in_ok-put_block-in-Two-clause-rows : goal.put_node-returns-in_ok-put_block-in-Two-clause-rows
 put_node-returns-in_ok-put_block-in-Two-clause-rows t c =
@@ -69,7 +69,7 @@ put_node-returns-in_ok-put_block-in-Two-clause-rows t c =
     let b = nodes text c.in-Two.second.value in
     let is = ap (node text) c.in-Two.is in
     let after = c.leads_to-after.result in
-    let n = two_entries o k after c.entry-i.result c.entry-j.result c.len-o.result c.block_extent.result.statements u c.in-Two.at ns h
+    let n = two_entries o k after c.entry-i.result c.entry-j.result c.next_point-o.result c.block_extent.result.statements u c.in-Two.at ns h
     a (nodes text c.deref-in-Two.result.now) (nodes text c.deref-in-Two-3.result.now) b (nodes text c.deref-in-Two-2.result.now)
     is (ap (nodes text) c.deref-in-Two.ensures) (ap (nodes text) c.deref-in-Two-3.ensures) (ap (nodes text) c.deref-in-Two-2.ensures)
     c.requires.short (omega arith) (c.block_extent.ensures.statements text) (c.entry-i.ensures text) (c.entry-j.ensures text) in
@@ -79,7 +79,7 @@ put_node-returns-in_ok-put_block-in-Two-clause-rows t c =
     (length (vec_items fst.places)) (length (vec_items fst.points)) (length (vec_items mid.places)) (length (vec_items mid.points))
     (rows was) (rows fst) (rows mid) (rows c.put_block-in-Two.new.rows)
     is (ap (news text) c.deref-in-Two-4.ensures.value) (ap (nodes text) c.deref-in-Two-5.ensures) (ap (nodes text) c.deref-in-Two-6.ensures)
-    (c.leads_to-after.ensures text ∙ ap (λ (m : ℕ). part_after h m k) (let e : c.len-o.result ≡ o = omega arith in e)) n.0 n.1 (c.in_ok-stmt-in-Two.ensures p)
+    (c.leads_to-after.ensures text ∙ ap (λ (m : ℕ). part_after h m k) (let e : c.next_point-o.result ≡ o = omega arith in e)) n.0 n.1 (c.in_ok-stmt-in-Two.ensures text p)
     (c.as_slice.ensures.value ∙ c.in_ok-catches-in-Two.ensures text) (ap (all_held text) c.as_slice-in-Two.ensures.value ∙ c.in_ok-tries-in-Two.ensures text)
     c.in_ok-put_statement-in-Two.ensures.places c.in_ok-put_statement-in-Two.ensures.points c.in_ok-put_block-in-Two.ensures.places c.in_ok-put_block-in-Two.ensures.points
     c.in_ok-put_statement-in-Two.ensures.rows c.in_ok-put_block-in-Two.ensures.rows c.put_block-in-Two.ensures.rows

@@ -1,6 +1,6 @@
 use Rattle.std.proofs.Common.{◌+◌, ◌*◌}
 use Rattle.tables.proofs.expr.Expr.TheLaws.{the_size}
-use Rattle.layout.proofs.exprs.+copy_boxed_copy_expr.Given as goal
+use Rattle.layout.proofs.exprs.+copying.Given as goal
 
 abbrev pub decreases-copy_boxed : goal.decreases-copy_boxed
 decreases-copy_boxed l = 2 * the_size l.e.now + 1
