@@ -1,16 +1,12 @@
 -- Rows that are laid out one after another.
-use Rattle.std.proofs.Common.{◌≡◌, ℕ, suc, ◌+◌, ◌-◌, ◌^◌, ◌<◌, ◌≤◌, min, List, [], ◌∷◌, ◌++◌, OnOk, Ok, Err, Result, sym, refl, ap, ◌∙◌, append_assoc, add-one, arith}
+use Rattle.std.proofs.Common.{◌≡◌, ℕ, suc, ◌+◌, ◌-◌, ◌^◌, ◌<◌, ◌≤◌, min, List, [], OnOk, Ok, Err, Result, sym, refl, ap, ◌∙◌, append_assoc, add-one, arith}
+use Rattle.std.proofs.lemmas.List.{map-append}
 use Rattle.rules.specs.Programs.{Stm}
-use Rattle.tables.specs.declared.rows.Place as code-place
 use Rattle.unfold.specs.Unfolded.{New, Got, Part, Node, two, Nodes, seq, Branches, also}
 use Rattle.program.specs.Sizes.{node_size, size, branch_size, node_places, how_many, entry}
-use Rattle.program.specs.Layout.{Place, Open, part_stm, part_after, part_catches, part_opens, node_placing, placing, branch_placing}
-use Rattle.layout.specs.Rows.{place_row, place_rows}
+use Rattle.program.specs.Layout.{Open, part_stm, part_after, part_catches, part_opens, node_placing, placing, branch_placing}
+use Rattle.layout.specs.Rows.{place_row}
 use Rattle.layout.specs.Walked.{Rows, more, statement_rows, begun, node_rows, block_rows, branch_rows}
-
-rows_of : (xs ys : List Place) → place_rows (xs ++ ys) ≡ place_rows xs ++ place_rows ys
-rows_of [] ys = refl
-rows_of (x ∷ xs) ys = ap (λ (l : List code-place.Place). place_row x ∷ l) (rows_of xs ys)
 
 more_assoc : (a b c : Rows) → more (more a b) c ≡ more a (more b c)
 more_assoc a b c i =
@@ -35,7 +31,7 @@ pub seq_laid : {X Y : Type 0} (r : Result X Y) (e p : ℕ) (cs : List ℕ) (rs :
     → mid ≡ more was (node_rows e p cs rs u' q o n) → OnOk r (end ≡ more mid (block_rows e p cs rs vs' q' o' k))
     → OnOk r (end ≡ more was (block_rows e p cs rs us q o k))
 seq_laid r e p cs rs q o k us u u' vs vs' q' o' n was mid end h i j a b c m z =
-    let rows = rows_of (node_placing e p u q o) (placing e p vs (q + node_places u) (o + node_size u)) in
+    let rows = map-append place_row (node_placing e p u q o) (placing e p vs (q + node_places u) (o + node_size u)) in
     joined r was mid end (node_rows e p cs rs u' q o n) (block_rows e p cs rs vs' q' o' k) (block_rows e p cs rs us q o k) (cc) m z
 
 pub two_laid : {X Y : Type 0} (r : Result X Y) (e p : ℕ) (cs : List ℕ) (rs : List Open) (q o k : ℕ) (u : Node) (at : ℕ) (ns ns' : List New) (h : Part) (a a' b b' : Nodes)
@@ -47,7 +43,7 @@ pub two_laid : {X Y : Type 0} (r : Result X Y) (e p : ℕ) (cs : List ℕ) (rs :
     → OnOk r (end ≡ more mid (block_rows e p cs rs b' q₂ o₂ k)) → OnOk r (end ≡ more was (node_rows e p cs rs u q o k))
 two_laid r e p cs rs q o k u at ns ns' h a a' b b' st after i j ics irs q₁ o₁ q₂ o₂ was fst mid end c₁ c₂ c₃ c₄ c₅ c₆ c₇ c₈ c₉ d₁ d₂ d₃ d₄ d₅ x y z =
     let one = add-one o in
-    let rows = rows_of (placing e p a q (o + 1)) (placing e p b (q + how_many a) ((o + 1) + size a)) in
+    let rows = map-append place_row (placing e p a q (o + 1)) (placing e p b (q + how_many a) ((o + 1) + size a)) in
     thirdly r was fst mid end (statement_rows p st k cs at ns') (block_rows e p ics irs a' q₁ o₁ after) (block_rows e p cs rs b' q₂ o₂ k) (node_rows e p cs rs u q o k) (cc) x y z
 
 pub also_laid : {X Y : Type 0} (r : Result X Y) (e p x : ℕ) (rs : List Open) (q o : ℕ) (bs : Branches) (g g' : List Got) (us us' : Nodes) (vs vs' : Branches)
@@ -58,7 +54,7 @@ pub also_laid : {X Y : Type 0} (r : Result X Y) (e p x : ℕ) (rs : List Open) (
     → OnOk r (end ≡ more mid (branch_rows e p x rs vs' q₂ o₂)) → OnOk r (end ≡ more was (branch_rows e p x rs bs q o))
 also_laid r e p x rs q o bs g g' us us' vs vs' s cs q₀ q₁ o₁ q₂ o₂ was fst mid end c₁ c₂ c₃ c₄ c₅ c₆ c₇ c₈ c₉ d₁ d₂ y z w =
     let one = add-one q in
-    let rows = rows_of (placing e q us (q + 1) o) (branch_placing e p x vs ((q + 1) + how_many us) (o + size us)) in
+    let rows = map-append place_row (placing e q us (q + 1) o) (branch_placing e p x vs ((q + 1) + how_many us) (o + size us)) in
     thirdly r was fst mid end (begun q (record { parent = p; under = x; start = s }) g') (block_rows e q₀ cs rs us' q₁ o₁ (e + q₀)) (branch_rows e p x rs vs' q₂ o₂)
     (branch_rows e p x rs bs q o) (cc) y z w
 

@@ -1,5 +1,4 @@
 pub mod Bringing
-pub mod Copying
 pub mod Fitting
 pub mod Giving
 pub mod Knowing

@@ -1,5 +1,5 @@
 -- The copies for the variables that a branch reads.
-use Rattle.std.proofs.Common.{◌≡◌, ℕ, List, [], ◌∷◌, Some, None, Option, refl, ap}
+use Rattle.std.proofs.Common.{◌≡◌, ℕ, List, [], ◌∷◌, ◌++◌, Some, None, Option, refl, ap}
 use Rattle.std.specs.List.{filter_map}
 use Rattle.rules.specs.Programs.{Copies}
 use Rattle.tables.specs.declared.stmt.Copied.{Copied}
@@ -20,3 +20,7 @@ one_copy (Some a) c xs ys e = ap (λ (l : Copies). (c, a) ∷ l) e
 pub own_copies : (text : List ℕ) (gs : List code_got.Got) → copies (filter_map own_copy gs) ≡ got_copies (gots text gs)
 own_copies text [] = refl
 own_copies text (g ∷ gs) = one_copy g.from g.own (filter_map own_copy gs) (got_copies (gots text gs)) (own_copies text gs)
+
+pub copies_append : (xs ys : List Copied) → copies (xs ++ ys) ≡ copies xs ++ copies ys
+copies_append [] ys = refl
+copies_append (x ∷ xs) ys = ap (λ (l : Copies). (x.to, x.from) ∷ l) (copies_append xs ys)

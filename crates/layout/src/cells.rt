@@ -14,6 +14,7 @@ pub fn push_news(text: &[u8], out: &mut Vec<Cell>, p: u16, news: &[New]) -> Resu
     requires { news_fit (fresh text.now news.now) ≡ true }
     ensures { OnOk result (cell_rows out.new.items ≡ cell_rows out.old.items ++ cells_of p (fresh text.now news.now)) }
 {
+    // A loop, since the bound of a closure's cast would have to be shown for each turn of the chain.
     for n in news {
         let len = n.name.bytes(text).len();
         out.push(Cell {

@@ -4,8 +4,7 @@ use Rattle.std.proofs.lemmas.Iterator.{YieldsList-from_slice}
 use Rattle.std.proofs.lemmas.Iterator.Adapters.{items_from_extend}
 use Rattle.std.proofs.lemmas.Iterator.Consumers.{YieldsList-from_filter_map}
 use Rattle.tables.specs.Stms.{copies}
-use Rattle.layout.proofs.Copying.{copies_append}
-use Rattle.layout.proofs.Sharing.{own_copy, own_copies}
+use Rattle.layout.proofs.Sharing.{own_copy, own_copies, copies_append}
 use Rattle.layout.proofs.pars.push_own.Goals as goal
 
 pub returns : goal.returns
