@@ -1,6 +1,5 @@
 -- Tables with no point, no cell, no variable got and one row for the main block are those of `main { }`.
-use Rattle.std.proofs.Common.{◌≡◌, ℕ, zero, suc, Bool, false, List, [], ◌∷◌, length, get_or, vec_items, vec_len, sym, refl, ap, ◌∙◌}
-use mathlib.Core.Path.{fun_ext}
+use Rattle.std.proofs.Common.{◌≡◌, ℕ, zero, suc, List, [], ◌∷◌, length, get_or, vec_items, sym, refl, ap, ◌∙◌}
 use Rattle.rules.specs.Programs as rules
 use Rattle.rules.specs.Programs.{Table}
 use Rattle.tables.specs.declared.rows.Cell as code-cell
@@ -10,7 +9,6 @@ use Rattle.tables.specs.declared.rows.Place as code-place
 use Rattle.tables.specs.declared.tables.Tables.{Tables}
 use Rattle.tables.specs.Fit.{no_place}
 use Rattle.tables.specs.Stms.{stm_at, after_at, place_at, catches_at, offset_at, has_got, no_cell, recorded}
-use Rattle.tables.specs.Views.{table}
 use Rattle.program.specs.Layout as laid
 use Rattle.program.specs.Clearing.{fresh}
 use Rattle.layout.specs.Shown.{Shows}

@@ -1,5 +1,5 @@
 -- A clear that is refused, and one that is not.
-use Rattle.std.proofs.Common.{◌≡◌, ℕ, List, Ok, Err, Result, sym, refl, ap, ◌∙◌, subst}
+use Rattle.std.proofs.Common.{◌≡◌, ℕ, List, Ok, Err, sym, subst}
 use Rattle.numbers.specs.Kinds.{Meaning}
 use Rattle.numbers.specs.Literals.{literal_reading}
 use Rattle.reader.specs.declared.fault.Error.{Error}
@@ -10,7 +10,7 @@ use Rattle.program.specs.Clearing.{cleared, fresh, left}
 use Rattle.layout.specs.Shown.{Shows}
 use Rattle.names.proofs.Declaring.{met_ok, met_err}
 use Rattle.clearing.specs.declared.programs.Program.{Program}
-use Rattle.clearing.specs.Cleared.{statements_of, Holds, left_by, Cleared}
+use Rattle.clearing.specs.Cleared.{statements_of, Holds, Cleared}
 
 -- tables and a count that stand for a program
 abbrev pub Laid : Tables × ℕ → laid.Program → Type 0

@@ -1,9 +1,9 @@
 -- The procedures that the stage of names answers are those of the tree, the last in front.
-use Rattle.std.proofs.Common.{◌≡◌, ℕ, List, [], ◌∷◌, Ok, Err, vec_items, sym, refl, ap, ◌∙◌}
+use Rattle.std.proofs.Common.{◌≡◌, ℕ, List, [], ◌∷◌, Ok, vec_items, sym, ap, ◌∙◌}
 use Rattle.reader.specs.Faults.{Answer, Meets, ◌>>=◌}
 use Rattle.grammar.specs.declared.tree.Proc as code-proc
 use Rattle.grammar.specs.declared.tree.Tree as code-tree
-use Rattle.grammar.specs.Trees.{Proc, Tree}
+use Rattle.grammar.specs.Trees.{Proc}
 use Rattle.grammar.specs.Views.{proc, procs, block, tree}
 use Rattle.names.specs.Naming.{Reading, names_proc, names_procs, names_block, named}
 use Rattle.names.specs.Scopes.{after, ended}

@@ -1,8 +1,8 @@
 -- From the unfolded text to the program that the definition of clearing has.
-use Rattle.std.proofs.Common.{◌≡◌, ℕ, suc, ◌+◌, ◌-◌, List, [], ◌∷◌, ◌++◌, length, Ok, Err, sym, refl, ap, ◌∙◌, subst, arith, length-append}
+use Rattle.std.proofs.Common.{◌≡◌, ℕ, suc, List, [], Ok, Err, refl, ap, ◌∙◌, subst, arith, length-append}
 use Rattle.reader.specs.Faults.{Answer, ◌>>=◌}
 use Rattle.reader.specs.Tokens.{Lexeme, tokenized}
-use Rattle.grammar.specs.Trees.{Tree, Proc, Block}
+use Rattle.grammar.specs.Trees.{Tree, Proc}
 use Rattle.grammar.specs.Parsing.{parsed}
 use Rattle.names.specs.Naming.{Reading, named}
 use Rattle.rules.specs.Soundness.{Sound}
@@ -10,7 +10,7 @@ use Rattle.unfold.specs.Unfolded.{Nodes}
 use Rattle.unfold.specs.Unfolding.{unfolded}
 use Rattle.unfold.specs.Sharing.{sharing}
 use Rattle.program.specs.Sizes.{size, how_many}
-use Rattle.program.specs.Layout.{Program, laid_out, table_of, points, ends, placing}
+use Rattle.program.specs.Layout.{Program, laid_out, table_of, points, ends}
 use Rattle.program.specs.Clearing.{cleared, program_of, left}
 use Rattle.program.specs.Guarantees.{Bounded, UnfoldedWithin}
 use Rattle.program.proofs.Accept.{accepted_sound, ends_size}

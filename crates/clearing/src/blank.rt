@@ -5,7 +5,7 @@ ghost use Rattle.layout.specs.Shown.{Shows};
 ghost use Rattle.tables.specs.Fit.{no_place};
 
 use std::alloc::{AllocError, Global};
-use tables::rows::{Cell, Got, Place, Point};
+use tables::rows::Place;
 use tables::tables::Tables;
 
 // The main block: it has itself as parent, and its end, which stands past the last point, is its first point.
@@ -23,16 +23,11 @@ fn main_block() -> Place
 pub fn blank_tables(heap: Global) -> Result<Tables, AllocError>
     ensures { IfOk result (λ t. Shows t empty_main) }
 {
-    let mut places: Vec<Place> = Vec::new(heap);
-    places.push(main_block())?;
-    let points: Vec<Point> = Vec::new(heap);
-    let cells: Vec<Cell> = Vec::new(heap);
-    let got: Vec<Got> = Vec::new(heap);
     Ok(Tables {
-        points,
-        places,
-        cells,
-        got,
+        points: Vec::new(heap),
+        places: vec![in heap; main_block()]?,
+        cells: Vec::new(heap),
+        got: Vec::new(heap),
     })
 }
 

@@ -24,5 +24,5 @@ pub fn cleared_tables<K: NumberKind>(
 {
     let all = cleared_nodes(heap, kind, text)?;
     let tables = lay_out(text, heap, &all)?;
-    Ok((tables, statements(text, &all) as usize))
+    Ok((tables, usize::from(statements(&all))))
 }

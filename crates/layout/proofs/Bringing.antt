@@ -1,6 +1,6 @@
 -- Cells that a statement brings, from an index on.
-use Rattle.std.proofs.Common.{◌≡◌, ℕ, ◌+◌, ◌<◌, ◌≤◌, true, List, [], ◌∷◌, ◌++◌, length, get_or, drop, sym, refl, ap, ◌∙◌, append_assoc, append-nil}
-use Rattle.std.proofs.lemmas.List.{at_drop_more, at_drop_all}
+use Rattle.std.proofs.Common.{◌≡◌, ℕ, ◌+◌, ◌<◌, ◌≤◌, true, List, [], ◌∷◌, ◌++◌, length, get_or, drop, sym, ap, ◌∙◌, append_assoc, append-nil}
+use Rattle.std.proofs.lemmas.List.{map-append, at_drop_more, at_drop_all}
 use Rattle.std.proofs.lemmas.Bool.{ltb-true, and_parts}
 use Rattle.tables.specs.declared.rows.Cell as code-cell
 use Rattle.unfold.specs.declared.nodes.New as code-new
@@ -17,10 +17,6 @@ fit_here text ns i d h k =
     let p = and_parts _ _ (sym e ∙ k) in
     (ltb-true _ _ p.0, p.1)
 
-pub rows_append : (xs ys : List code-cell.Cell) → cell_rows (xs ++ ys) ≡ cell_rows xs ++ cell_rows ys
-rows_append [] ys = refl
-rows_append (x ∷ xs) ys = ap (λ (l : List Cell). cell x ∷ l) (rows_append xs ys)
-
 -- the cell at the index is pushed
 pub bring_more : (text : List ℕ) (p : ℕ) (was after : List code-cell.Cell) (ns : List code-new.New) (i : ℕ) (d : code-new.New) (n : ℕ) → i < length ns
     → n ≡ length (name text (get_or ns i d).name).text
@@ -31,7 +27,7 @@ bring_more text p was after ns i d n h e q =
     let rest = cells_of p (news text (drop (i + 1) ns)) in
     let row : ℕ → code-cell.Cell = λ m. record { home = g.home; declarer = p; at = g.name.at; len = m } in
     ap (λ (l : List code-cell.Cell). cell_rows l ++ rest) q
-    ∙ ap (λ (l : List Cell). l ++ rest) (rows_append was (row n ∷ []))
+    ∙ ap (λ (l : List Cell). l ++ rest) (map-append cell was (row n ∷ []))
     ∙ append_assoc (cell_rows was) (cell (row n) ∷ []) rest
     ∙ ap (λ (m : ℕ). cell_rows was ++ (cell (row m) ∷ rest)) e
     ∙ sym (at_drop_more (λ (xs : List code-new.New). cell_rows was ++ cells_of p (news text xs)) ns i d h)

@@ -1,6 +1,7 @@
 -- What a place got is found in the rows of what the places got, numbered from the first.
-use Rattle.std.proofs.Common.{◌≡◌, ℕ, zero, suc, ◌+◌, ◌<◌, Bool, true, false, ◌&&◌, ◌||◌, eqb, List, [], ◌∷◌, ◌++◌, length, get_or, sym, refl, ap, ◌∙◌, inl, inr, zero-add, arith}
+use Rattle.std.proofs.Common.{◌≡◌, ℕ, zero, suc, ◌+◌, ◌<◌, Bool, false, ◌&&◌, ◌||◌, eqb, List, [], ◌∷◌, ◌++◌, length, get_or, sym, refl, ap, ◌∙◌, inl, inr, zero-add, arith}
 use Rattle.std.proofs.lemmas.Bool.{eq-eqb, ne_eqb, cases_eq}
+use Rattle.std.proofs.Math.Bool.{or_assoc, or_comm, or-false, and-false, and-or_distrib_left}
 use Rattle.rules.specs.Programs.{elem}
 use Rattle.rules.specs.Moves.{any_below}
 use Rattle.tables.specs.declared.rows.Got as row
@@ -11,14 +12,7 @@ use Rattle.program.specs.Layout.{Place, no_place}
 use Rattle.layout.specs.Given.{given, given_from}
 
 or_swap : (a b c : Bool) → (a || (b || c)) ≡ (b || (a || c))
-or_swap true true c = refl
-or_swap true false c = refl
-or_swap false true c = refl
-or_swap false false c = refl
-
-or_group : (a b c : Bool) → ((a || b) || c) ≡ (a || (b || c))
-or_group true b c = refl
-or_group false b c = refl
+or_swap a b c = sym (or_assoc a b c) ∙ ap (λ (d : Bool). d || c) (or_comm a b) ∙ or_assoc b a c
 
 -- the first number apart from the others
 first_apart : (n : ℕ) (f : ℕ → Bool) → any_below (suc n) f ≡ (f 0 || any_below n (λ i. f (suc i)))
@@ -33,7 +27,7 @@ got_append [] ys q h = refl
 got_append (x ∷ xs) ys q h =
     got_first x (xs ++ ys) q h
     ∙ ap (λ (b : Bool). got_is x q h || b) (got_append xs ys q h)
-    ∙ sym (or_group (got_is x q h) (has_got xs q h) (has_got ys q h))
+    ∙ sym (or_assoc (got_is x q h) (has_got xs q h) (has_got ys q h))
     ∙ ap (λ (b : Bool). b || has_got ys q h) (sym (got_first x xs q h))
 
 eqb_swap : (m n : ℕ) → eqb m n ≡ eqb n m
@@ -43,21 +37,13 @@ eqb_swap m n =
       | inr ne ↦ ne_eqb m n ne ∙ sym (ne_eqb n m (λ e. ne (sym e)))
     ]
 
-one_home : (a b c : Bool) → ((a && b) || (a && c)) ≡ (a && (b || c))
-one_home true b c = refl
-one_home false b c = refl
-
 -- the rows of the place r
 given_got : (r : ℕ) (gs : List Got) (q h : ℕ) → has_got (given r gs) q h ≡ (eqb r q && elem h (homes gs))
-given_got r [] q h = none (eqb r q)
-  where
-    none : (b : Bool) → false ≡ (b && false)
-    none true = refl
-    none false = refl
+given_got r [] q h = sym (and-false (eqb r q))
 given_got r (g ∷ gs) q h =
     got_first (record { place = r; home = g.home }) (given r gs) q h
     ∙ ap (λ (b : Bool). (eqb r q && eqb g.home h) || b) (given_got r gs q h)
-    ∙ one_home (eqb r q) (eqb g.home h) (elem h (homes gs))
+    ∙ sym (and-or_distrib_left (eqb r q) (eqb g.home h) (elem h (homes gs)))
     ∙ ap (λ (b : Bool). eqb r q && (b || elem h (homes gs))) (eqb_swap g.home h)
 
 -- no row of the places from r on is of a place before them
@@ -77,11 +63,7 @@ from_got r (p ∷ ps) zero h =
     ∙ ap (λ (b : Bool). has_got (given r p.got) (r + 0) h || b) (before (suc r) ps (r + 0) h (omega arith))
     ∙ ap (λ (b : Bool). b || false) (given_got r p.got (r + 0) h)
     ∙ ap (λ (b : Bool). (b && here) || false) (eq-eqb r (r + 0) (omega arith))
-    ∙ or_none here
-  where
-    or_none : (b : Bool) → (b || false) ≡ b
-    or_none true = refl
-    or_none false = refl
+    ∙ or-false here
 from_got r (p ∷ ps) (suc k) h =
     got_append (given r p.got) (given_from (suc r) ps) (r + suc k) h
     ∙ ap (λ (b : Bool). b || has_got (given_from (suc r) ps) (r + suc k) h) (given_got r p.got (r + suc k) h)

@@ -1,13 +1,11 @@
 pub mod Bringing
-pub mod Copying
 pub mod Fitting
 pub mod Giving
-pub mod Joining
 pub mod Knowing
 pub mod Looking
 pub mod Nearest
 pub mod Numbering
-pub mod Placing
 pub mod Sharing
 pub mod Showing
-pub mod Standing
+pub mod Laying
+pub mod Pointing

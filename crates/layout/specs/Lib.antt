@@ -3,3 +3,4 @@ pub mod Given
 pub mod Opens
 pub mod Rows
 pub mod Shown
+pub mod Walked

@@ -1,5 +1,5 @@
 -- What the rows of the tables stand for.
-use Rattle.std.specs.Prelude.{ℕ, List, [], ◌∷◌, vec_items}
+use Rattle.std.specs.Prelude.{ℕ, List, map, vec_items}
 use Rattle.rules.specs.Programs as rules
 use Rattle.tables.specs.declared.rows.Cell as code-cell
 use Rattle.tables.specs.declared.rows.Point as code-point
@@ -11,24 +11,21 @@ abbrev pub cell : code-cell.Cell → Cell
 cell c = record { home = c.home; brought_in = c.declarer; name_at = c.at; name_length = c.len }
 
 abbrev pub cell_rows : List code-cell.Cell → List Cell
-cell_rows [] = []
-cell_rows (c ∷ cs) = cell c ∷ cell_rows cs
+cell_rows cs = map cell cs
 
 -- The row of a place; what it got stands in a list of its own.
 abbrev pub place_row : Place → code-place.Place
 place_row p = record { parent = p.parent; under = p.under; start = p.start }
 
 abbrev pub place_rows : List Place → List code-place.Place
-place_rows [] = []
-place_rows (p ∷ ps) = place_row p ∷ place_rows ps
+place_rows ps = map place_row ps
 
 -- A point.
 abbrev pub point : code-point.Point → Point
 point x = record { place = x.place; stm = stm x.place x.stmt; after = x.after; catches = vec_items x.catches; offset = x.offset }
 
 abbrev pub point_rows : List code-point.Point → List Point
-point_rows [] = []
-point_rows (x ∷ xs) = point x ∷ point_rows xs
+point_rows xs = map point xs
 
 abbrev pub standing : ℕ → rules.Stm → ℕ → List ℕ → ℕ → Point
 standing p s k cs at = record { place = p; stm = s; after = k; catches = cs; offset = at }

@@ -5,17 +5,15 @@ ghost use Rattle.tables.specs.Stms.{expr as meant};
 use std::alloc::{AllocError, Global};
 use tables::expr::Expr;
 
-#[cycle(copy_boxed_copy_expr)]
+#[cycle(copying)]
 fn copy_boxed(heap: Global, e: &Expr) -> Result<Box<Expr>, AllocError>
     ensures { IfOk result (λ x. meant x.value ≡ meant e.now) }
 {
-    let copy = copy_expr(heap, e)?;
-    let boxed = Box::new(heap, copy)?;
-    Ok(boxed)
+    Ok(Box::new(heap, copy_expr(heap, e)?)?)
 }
 
 // Written out: a derived `clone` of a type that leads back to itself promises nothing of what it makes.
-#[cycle(copy_boxed_copy_expr)]
+#[cycle(copying)]
 pub fn copy_expr(heap: Global, e: &Expr) -> Result<Expr, AllocError>
     ensures { IfOk result (λ x. meant x ≡ meant e.now) }
 {

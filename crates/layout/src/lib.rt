@@ -2,16 +2,13 @@
 #![tactic(auto)]
 
 mod cells;
-mod counts;
-mod ends;
 mod entries;
 mod exprs;
 mod given;
 mod pars;
-mod places;
 mod points;
 pub mod sizes;
-mod spelling;
 mod stmts;
 mod tries;
+mod walk;
 pub mod whole;

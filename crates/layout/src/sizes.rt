@@ -1,42 +1,79 @@
-// How many statements there are in the unfolded text: a block that belongs to one counts nothing.
-ghost use Rattle.std.specs.Prelude.{◌≡◌, ◌≤◌};
-ghost use Rattle.program.specs.Sizes.{node_size, size, branch_size};
+// How much there is in the unfolded text.
+ghost use Rattle.std.specs.Prelude.{◌≡◌, ℕ, ◌+◌, ◌-◌, ◌^◌, min, List};
+ghost use Rattle.program.specs.Sizes.{node_size, size, branch_size, node_places, how_many, branch_places};
 ghost use Rattle.unfold.specs.Views.{node, nodes as meant, branches as all};
 
 use unfold::nodes::{Branches, Node, Nodes};
 
-#[cycle(branch_statements_node_statements_statements)]
-pub fn node_statements(text: &[u8], u: &Node) -> u16
-    requires { node_size (node text.now u.now) ≤ 1024 }
-    ensures { result ≡ node_size (node text.now u.now) }
-{
-    match u {
-        Node::One(_, _, _) => 1,
-        Node::Throws(_, _) => 1,
-        Node::Two(_, _, _, first, second) => 1
-            + (statements(text, first) + statements(text, second)),
-        Node::Par(_, _, branches) => 1 + branch_statements(text, branches),
+// How many statements, where a block that belongs to one counts nothing, and how many places, one for each branch of a
+// par, as far as a number counts.
+#[derive(Clone, Copy, Default)]
+pub(crate) struct Extent {
+    pub(crate) statements: u16,
+    pub(crate) places: u16,
+}
+
+impl Extent {
+    fn with(self, other: Extent) -> Extent
+        ensures statements { result.statements ≡ min (self.statements + other.statements) (2 ^ 16 - 1) }
+        ensures places { result.places ≡ min (self.places + other.places) (2 ^ 16 - 1) }
+    {
+        Extent {
+            statements: self.statements.saturating_add(other.statements),
+            places: self.places.saturating_add(other.places),
+        }
     }
 }
 
-#[cycle(branch_statements_node_statements_statements)]
-pub fn statements(text: &[u8], us: &Nodes) -> u16
-    requires { size (meant text.now us.now) ≤ 1024 }
-    ensures { result ≡ size (meant text.now us.now) }
+#[cycle(extent)]
+pub(crate) fn node_extent(u: &Node) -> Extent
+    ensures statements { (text : List ℕ) → result.statements ≡ min (node_size (node text u.now)) (2 ^ 16 - 1) }
+    ensures places { (text : List ℕ) → result.places ≡ min (node_places (node text u.now)) (2 ^ 16 - 1) }
+{
+    let one = Extent {
+        statements: 1,
+        places: 0,
+    };
+    match u {
+        Node::One(_, _, _) | Node::Throws(_, _) => one,
+        Node::Two(_, _, _, first, second) => one
+            .with(block_extent(first))
+            .with(block_extent(second)),
+        Node::Par(_, _, branches) => one.with(branch_extent(branches)),
+    }
+}
+
+#[cycle(extent)]
+pub(crate) fn block_extent(us: &Nodes) -> Extent
+    ensures statements { (text : List ℕ) → result.statements ≡ min (size (meant text us.now)) (2 ^ 16 - 1) }
+    ensures places { (text : List ℕ) → result.places ≡ min (how_many (meant text us.now)) (2 ^ 16 - 1) }
 {
     match us {
-        Nodes::Nil => 0,
-        Nodes::Seq(u, rest) => node_statements(text, u) + statements(text, rest),
+        Nodes::Nil => Extent::default(),
+        Nodes::Seq(u, rest) => node_extent(u).with(block_extent(rest)),
     }
 }
 
-#[cycle(branch_statements_node_statements_statements)]
-fn branch_statements(text: &[u8], branches: &Branches) -> u16
-    requires { branch_size (all text.now branches.now) ≤ 1024 }
-    ensures { result ≡ branch_size (all text.now branches.now) }
+#[cycle(extent)]
+fn branch_extent(branches: &Branches) -> Extent
+    ensures statements { (text : List ℕ) → result.statements ≡ min (branch_size (all text branches.now)) (2 ^ 16 - 1) }
+    ensures places { (text : List ℕ) → result.places ≡ min (branch_places (all text branches.now)) (2 ^ 16 - 1) }
 {
     match branches {
-        Branches::Last => 0,
-        Branches::Also(_, us, rest) => statements(text, us) + branch_statements(text, rest),
+        Branches::Last => Extent::default(),
+        Branches::Also(_, us, rest) => {
+            let branch = Extent {
+                statements: 0,
+                places: 1,
+            };
+            branch.with(block_extent(us)).with(branch_extent(rest))
+        }
     }
+}
+
+// How many statements there are in a block.
+pub fn statements(us: &Nodes) -> u16
+    ensures { (text : List ℕ) → result ≡ min (size (meant text us.now)) (2 ^ 16 - 1) }
+{
+    block_extent(us).statements
 }

@@ -1,5 +1,5 @@
 // The statement of a point.
-ghost use Rattle.std.specs.Prelude.{◌≡◌, ℕ, true, IfOk};
+ghost use Rattle.std.specs.Prelude.{◌≡◌, ℕ, true, List, IfOk};
 ghost use Rattle.tables.specs.Fit.{named};
 ghost use Rattle.tables.specs.Stms.{stm};
 ghost use Rattle.program.specs.Layout.{part_stm};
@@ -25,16 +25,9 @@ pub fn action_stmt(heap: Global, action: &Action) -> Result<Stmt, AllocError>
 }
 
 // What stands before blocks, where the first block is entered at i, the second at j, and k is after the statement.
-pub fn part_stmt(
-    text: &[u8],
-    heap: Global,
-    part: &Part,
-    i: u16,
-    j: u16,
-    k: u16,
-) -> Result<Stmt, AllocError>
-    requires { part_fits (meant text.now part.now) ≡ true }
-    ensures { IfOk result (λ s. ((q : ℕ) → stm q s ≡ part_stm (meant text.now part.now) i j k)) }
+pub fn part_stmt(heap: Global, part: &Part, i: u16, j: u16, k: u16) -> Result<Stmt, AllocError>
+    requires { (text : List ℕ) × (part_fits (meant text part.now) ≡ true) }
+    ensures { (text : List ℕ) → IfOk result (λ s. ((q : ℕ) → stm q s ≡ part_stm (meant text part.now) i j k)) }
 {
     match part {
         Part::Plain => Ok(Stmt::Goto(i)),

@@ -1,12 +1,11 @@
 // Open tries, and throws.
-ghost use Rattle.std.specs.Prelude.{◌≡◌, ◌≤◌, length, IfOk};
+ghost use Rattle.std.specs.Prelude.{◌≡◌, ℕ, ◌≤◌, List, length, IfOk};
 ghost use Rattle.grammar.specs.Views.{name as called};
 ghost use Rattle.tables.specs.Stms.{stm};
 ghost use Rattle.program.specs.Layout.{nearest, thrown, part_after, part_catches, part_opens};
 ghost use Rattle.unfold.specs.Views.{perhaps, part as meant};
 ghost use Rattle.layout.specs.Opens.{held, all_held};
 
-use crate::spelling::alike;
 use grammar::tree::Name;
 use std::alloc::{AllocError, Global};
 use tables::stmt::Stmt;
@@ -25,85 +24,73 @@ pub struct Held {
 fn nearest_try(text: &[u8], tries: &[Held], n: Name) -> Option<Held>
     ensures { perhaps (held text.now) result ≡ nearest (called text.now n).text (all_held text.now tries.now) }
 {
-    for r in tries {
-        if alike(text, n, r.name) {
-            return Some(*r);
-        }
-    }
-    None
+    tries.iter().find(|r| n.is_alike(text, r.name)).copied()
 }
 
-// A throw in the place p.
-pub fn throw_stmt(text: &[u8], tries: &[Held], p: u16, n: Name) -> Stmt
-    ensures { stm p result ≡ thrown p (nearest (called text.now n).text (all_held text.now tries.now)) }
+// Where a block stands: its place, the catch blocks of the tries that are open in it from outside, and all open tries,
+// those nearest first.
+#[derive(Clone, Copy)]
+pub struct Inside<'a> {
+    pub place: u16,
+    pub catches: &'a [u16],
+    pub tries: &'a [Held],
+}
+
+// A throw there.
+pub fn throw_stmt(text: &[u8], inside: &Inside<'_>, n: Name) -> Stmt
+    ensures { stm inside.now.place result ≡ thrown inside.now.place (nearest (called text.now n).text (all_held text.now inside.now.tries.now)) }
 {
-    match nearest_try(text, tries, n) {
-        Some(r) => Stmt::Throw(r.place, r.number, r.catch),
-        None => Stmt::End,
-    }
+    nearest_try(text, inside.tries, n).map_or(
+        Stmt::End,
+        |r| Stmt::Throw(r.place, r.number, r.catch),
+    )
 }
 
 // Where the first block leads: back to a while at o.
-pub fn leads_to(text: &[u8], part: &Part, o: u16, k: u16) -> u16
-    ensures { result ≡ part_after (meant text.now part.now) o k }
+pub fn leads_to(part: &Part, o: u16, k: u16) -> u16
+    ensures { (text : List ℕ) → result ≡ part_after (meant text part.now) o k }
 {
     match part {
         Part::Loops(_) => o,
-        Part::Plain | Part::Calls(_, _) | Part::Tests(_) | Part::Tries(_) | Part::Takes(_, _) => k,
+        _ => k,
     }
 }
 
 // The catch blocks of the tries that are open in the first block, where j is the second.
 pub fn inner_catches(
-    text: &[u8],
     heap: Global,
     part: &Part,
     j: u16,
-    catches: &[u16],
+    inside: &Inside<'_>,
 ) -> Result<Vec<u16>, AllocError>
-    ensures { IfOk result (λ v. v.items ≡ part_catches (meant text.now part.now) j catches.now) }
+    ensures { IfOk result (λ v. ((text : List ℕ) → v.items ≡ part_catches (meant text part.now) j inside.now.catches.now)) }
 {
-    let mut out: Vec<u16> = catches.iter().copied().collect(heap)?;
-    match part {
-        Part::Tries(_) => {
-            out.push(j)?;
-            Ok(out)
-        }
-        Part::Plain | Part::Calls(_, _) | Part::Tests(_) | Part::Loops(_) | Part::Takes(_, _) => Ok(
-            out,
-        ),
+    let mut out = Vec::from_slice(heap, inside.catches)?;
+    if let Part::Tries(_) = part {
+        out.push(j)?;
     }
+    Ok(out)
 }
 
 // The tries that are open in the first block.
 pub fn inner_tries(
-    text: &[u8],
     heap: Global,
     part: &Part,
-    p: u16,
     j: u16,
-    catches: &[u16],
-    tries: &[Held],
+    inside: &Inside<'_>,
 ) -> Result<Vec<Held>, AllocError>
-    requires { length catches.now ≤ 1024 }
-    ensures { IfOk result (λ v. all_held text.now v.items ≡ part_opens (meant text.now part.now) p j catches.now (all_held text.now tries.now)) }
+    requires { length inside.now.catches.now ≤ 1024 }
+    ensures { IfOk result (λ v. ((text : List ℕ) → all_held text v.items ≡ part_opens (meant text part.now) inside.now.place j inside.now.catches.now (all_held text inside.now.tries.now))) }
 {
     let mut out: Vec<Held> = Vec::new(heap);
-    match part {
-        Part::Tries(n) => {
-            let number = catches.len() as u16 + 1;
-            out.push(Held {
-                name: *n,
-                place: p,
-                number,
-                catch: j,
-            })?;
-            out.extend_from_slice(tries)?;
-            Ok(out)
-        }
-        Part::Plain | Part::Calls(_, _) | Part::Tests(_) | Part::Loops(_) | Part::Takes(_, _) => {
-            out.extend_from_slice(tries)?;
-            Ok(out)
-        }
+    if let Part::Tries(n) = part {
+        out.push(Held {
+            name: *n,
+            place: inside.place,
+            number: inside.catches.len() as u16 + 1,
+            catch: j,
+        })?;
     }
+    out.extend_from_slice(inside.tries)?;
+    Ok(out)
 }

@@ -1,4 +1,4 @@
-use Rattle.std.proofs.Common.{◌≡◌, ℕ, ◌<◌, List, [], ◌∷◌, length, take, set, vec_items, sym, refl, ap, ◌∙◌, arith}
+use Rattle.std.proofs.Common.{◌≡◌, ◌<◌, List, [], ◌∷◌, length, take, set, vec_items, ap, ◌∙◌, arith}
 use Rattle.tables.specs.declared.rows.Place.{Place}
 use Rattle.tables.specs.Fit.{no_place}
 use Rattle.clearing.proofs.Empty.{blank_shows}

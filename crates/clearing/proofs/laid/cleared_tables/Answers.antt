@@ -1,9 +1,9 @@
-use Rattle.std.proofs.Common.{◌≡◌, ℕ, Ok, Err, sym, refl, ap, ◌∙◌}
+use Rattle.std.proofs.Common.{◌≡◌, Ok, Err, sym, refl, ap, ◌∙◌, arith}
 use Rattle.std.proofs.lemmas.Result.{err_from_is_err_and}
 use Rattle.numbers.specs.Literals.{literal_reading}
-use Rattle.tables.specs.declared.tables.Tables.{Tables}
 use Rattle.unfold.specs.Views.{nodes}
 use Rattle.program.specs.Layout.{laid_out}
+use Rattle.program.specs.Sizes.{size}
 use Rattle.reader.specs.Faults.{no_memory}
 use Rattle.program.specs.Clearing.{cleared}
 use Rattle.names.proofs.Declaring.{met_by}
@@ -20,12 +20,6 @@ lay_out-requires g c =
     let e = c.in_ok-all.ensures in
     let us = nodes text c.in_ok-all.all in
     record { within = nodes_within l text us e; bounded = nodes_bounded l text us e; sound = nodes_sound l text us e }
-
-pub statements-requires : goal.statements-requires
-statements-requires g c =
-    let l = literal_reading g.K.NumberKind.meaning in
-    let text = c.args.text.now in
-    (nodes_within l text (nodes text c.in_ok-all.all) c.in_ok-all.ensures).2
 
 pub returns-in_err-all : goal.returns-in_err-all
 returns-in_err-all g c =
@@ -46,5 +40,7 @@ returns g c =
     let l = literal_reading g.K.NumberKind.meaning in
     let text = c.args.text.now in
     let us = nodes text c.in_ok-all.all in
-    met_by Laid {x = Ok (c.in_ok-tables.tables, c.statements.result)} refl (sym (cleared_to l text us c.in_ok-all.ensures))
-    (c.in_ok-tables.ensures, c.statements.ensures ∙ statements_are us)
+    let within = (nodes_within l text us c.in_ok-all.ensures).2 in
+    let counted : c.from.result ≡ size us = omega (arith, c.statements.ensures text, c.from.ensures, within) in
+    met_by Laid {x = Ok (c.in_ok-tables.tables, c.from.result)} refl (sym (cleared_to l text us c.in_ok-all.ensures))
+    (c.in_ok-tables.ensures, counted ∙ statements_are us)

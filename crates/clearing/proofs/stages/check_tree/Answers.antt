@@ -1,18 +1,15 @@
-use Rattle.std.proofs.Common.{◌≡◌, List, [], Ok, Err, vec_items, sym, refl, ap, ◌∙◌}
+use Rattle.std.proofs.Common.{◌≡◌, [], Ok, Err, vec_items, sym, ap, ◌∙◌}
 use Rattle.std.proofs.lemmas.Result.{err_from_is_err_and}
 use Rattle.numbers.specs.Literals.{literal_reading}
 use Rattle.reader.specs.Faults.{Answer, ◌>>=◌}
-use Rattle.grammar.specs.Trees.{Proc}
-use Rattle.grammar.specs.Views.{tree, block}
-use Rattle.names.specs.Naming.{named}
+use Rattle.grammar.specs.Views.{block}
 use Rattle.names.specs.Scopes.{ended}
 use Rattle.names.proofs.Declaring.{met_ok}
 use Rattle.unfold.specs.Unfolded.{Nodes}
 use Rattle.unfold.specs.Unfolding.{unfolded}
 use Rattle.unfold.specs.Sharing.{sharing}
-use Rattle.unfold.specs.Views.{nodes, Gives}
-use Rattle.clearing.specs.Stages.{nodes_of}
-use Rattle.clearing.proofs.Answering.{gives_of, met_stops, given_stops, given_by}
+use Rattle.unfold.specs.Views.{nodes}
+use Rattle.clearing.proofs.Answering.{met_stops, given_stops, given_by}
 use Rattle.unfold.specs.declared.nodes.Nodes as code-nodes
 use Rattle.clearing.proofs.Procedures.{after_names}
 use Rattle.clearing.proofs.stages.check_tree.Goals as goal

@@ -1,19 +1,19 @@
-use Rattle.std.proofs.Common.{sym, ◌∙◌}
+use Rattle.std.proofs.Common.{◌≡◌, ap, ◌∙◌, rules, tests, find}
+use Rattle.std.proofs.lemmas.Iterator.{YieldsList-from_slice}
+use Rattle.std.proofs.lemmas.Iterator.Search.{find_from_yields_List}
+use Rattle.reader.specs.Tokens.{same}
 use Rattle.grammar.specs.Views.{name}
-use Rattle.layout.proofs.Nearest.{near_here, near_on, near_end}
+use Rattle.unfold.specs.Views.{perhaps}
+use Rattle.layout.specs.declared.tries.Held as code-held
+use Rattle.layout.specs.Opens.{held}
+use Rattle.layout.proofs.Nearest.{found}
 use Rattle.layout.proofs.tries.nearest_try.Goals as goal
-
-pub returns-then-alike : goal.returns-then-alike
-returns-then-alike c =
-    let text = c.args.text.now in
-    sym (c.loop-r.invariant ∙ near_here text (name text c.args.n).text c.args.tries.now c.loop-r.r-index _ c.loop-r-test.true c.if-alike.ensures)
-
-pub loop-r-preserved : goal.loop-r-preserved
-loop-r-preserved c =
-    let text = c.args.text.now in
-    c.loop-r.invariant ∙ near_on text (name text c.args.n).text c.args.tries.now c.loop-r.r-index _ c.loop-r-test.true c.if-alike.ensures
 
 pub returns : goal.returns
 returns c =
     let text = c.args.text.now in
-    sym (c.loop-r.invariant ∙ near_end text (name text c.args.n).text c.args.tries.now _ c.loop-r-test.false)
+    let w = (name text c.args.n).text in
+    let rs = c.args.tries.now in
+    let f = find_from_yields_List (λ (r : code-held.Held). same w (name text r.name).text) _ _ c.find.result c.find.ensures.ran (YieldsList-from_slice rs cc) (λ x b q k. search (rules, tests)) in
+    let e : c.copied.result ≡ find (λ r. same w (name text r.name).text) rs = search (rules, f) in
+    ap (perhaps (held text)) e ∙ found text w rs

@@ -6,13 +6,13 @@ use Rattle.layout.proofs.whole.lay_out.Goals as goal
 pub invariant_of-result : goal.invariant_of-result
 invariant_of-result c =
     let p = laid_out (nodes c.args.text.now c.args.us.now) in
-    let points = c.in_ok-points.points in
-    let places = c.in_ok-places.places in
-    let cells = c.in_ok-cells.cells in
+    let points = c.in_ok-rows.rows.points in
+    let places = c.in_ok-rows.rows.places in
+    let cells = c.in_ok-rows.rows.cells in
     let b = c.requires.bounded in
-    let pt = c.in_ok-points.ensures in
-    let pl = c.in_ok-places.ensures in
-    let ce = c.in_ok-cells.ensures in
+    let pt = c.in_ok-rows.ensures.points in
+    let pl = c.in_ok-rows.ensures.places in
+    let ce = c.in_ok-rows.ensures.cells in
     record {
       sized = sized_shown p places cells b pl ce;
       named = named_shown p points b pt;
@@ -22,5 +22,5 @@ invariant_of-result c =
 
 pub returns : goal.returns
 returns c =
-    shown _ (laid_out (nodes c.args.text.now c.args.us.now)) c.in_ok-points.ensures c.in_ok-places.ensures
-    c.in_ok-cells.ensures c.in_ok-got.ensures
+    shown _ (laid_out (nodes c.args.text.now c.args.us.now)) c.in_ok-rows.ensures.points c.in_ok-rows.ensures.places
+    c.in_ok-rows.ensures.cells c.in_ok-rows.ensures.got
