@@ -1,8 +1,9 @@
 // The plain record of places and cells. The rules bound both, and a board at power may not be refused, so they are arrays.
 
 // A place is idle, running at a point, parted at its par, finished or poisoned.
-#[derive(Clone, Copy)]
+#[derive(Clone, Copy, Debug, Default, PartialEq, Eq)]
 pub enum Local {
+    #[default]
     Idle,
     Running(u16),
     Parted(u16),
@@ -11,7 +12,7 @@ pub enum Local {
 }
 
 // Where a place stands, its mark, and how many steps it has made.
-#[derive(Clone, Copy)]
+#[derive(Clone, Copy, Debug, Default, PartialEq, Eq)]
 pub struct PlaceState {
     pub at: Local,
     pub mark: Option<u16>,
@@ -27,6 +28,7 @@ pub struct State {
     pub total: u32,
 }
 
+pub mod answers;
 pub mod closing;
 pub mod counting;
 pub mod marks;

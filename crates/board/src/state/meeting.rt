@@ -6,17 +6,18 @@ ghost use Rattle.board.specs.Views.{local, place, portless, flags};
 ghost use Rattle.board.specs.Effects.{PlaceAfter, After, Shaped, MayMove, is_cell, observed_if, met_cell};
 
 use crate::state::{Local, PlaceState, State};
+use std::array;
 use tables::tables::Tables;
 
 // A place after a meet, by whether it is counted: it passes its next.
+// This says the same of every home, word and place, so its contract says it of 0.
 fn met(t: &Tables, counted: bool, old: PlaceState) -> PlaceState
-    ensures { (h w q : ℕ) → PlaceAfter (meet_effect (table t.now) h (observed_if counted (local old.at)) w) q old result }
+    ensures { PlaceAfter (meet_effect (table t.now) 0 (observed_if counted (local old.at)) 0) 0 old result }
 {
     match old.at {
         Local::Running(x) if counted => PlaceState {
             at: Local::Running(t.after(x)),
-            mark: old.mark,
-            steps: old.steps,
+            ..old
         },
         _ => old,
     }
@@ -29,15 +30,9 @@ impl State {
         ensures is { (c : ℕ) → owns_at (table t.now) (runs_at (observed_if counted (local (place self.now q).at) q)) c ≡ is_cell result c }
         ensures named { IfSome result (λ c. c < 128) }
     {
-        if !counted {
-            return None;
-        }
-        let Local::Running(x) = self.places[q].at else {
-            return None;
-        };
-        match t.awaits(x) {
-            Some((c, _)) => Some(c),
-            None => None,
+        match self.places[q].at {
+            Local::Running(x) if counted => t.awaits(x).map(|(c, _)| c),
+            _ => None,
         }
     }
 
@@ -65,10 +60,7 @@ impl State {
         let p = t.declarer(h);
         let counted = self.counted(t, h, p);
         let cells = self.cells_met(t, &counted, self.cells[h]);
-        for q in 0..64 {
-            let new = met(t, counted[q], self.places[q]);
-            self.places[q] = new;
-        }
+        self.places = array::from_fn(|q| met(t, counted[q], self.places[q]));
         self.cells = cells;
         self.meets[h] += 1;
         self.total += 1;

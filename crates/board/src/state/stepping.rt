@@ -34,8 +34,8 @@ impl State {
         let old = self.places[p];
         self.places[p] = PlaceState {
             at,
-            mark: old.mark,
             steps: old.steps + 1,
+            ..old
         };
         self.total += 1;
     }
@@ -56,8 +56,7 @@ impl State {
         ensures { self.new ≡ with_cells self.old (copied self.old.cells list.now) }
     {
         let old = self.cells;
-        for i in (0..list.len()).rev() {
-            let c = list[i];
+        for c in list.iter().rev() {
             self.cells[c.to as usize] = old[c.from as usize];
         }
     }
@@ -69,8 +68,7 @@ impl State {
     {
         for b in branches {
             let q = *b as usize;
-            let new = started(t, q, self.places[q]);
-            self.places[q] = new;
+            self.places[q] = started(t, q, self.places[q]);
         }
     }
 
