@@ -35,7 +35,7 @@ Bounded s = ((q : ℕ) → (place s q).steps ≤ s.total) × ((h : ℕ) → slic
 
 -- A state that is below the limit of moves.
 abbrev pub MayMove : State → Type 0
-MayMove s = Shaped s × Bounded s × (s.total < 1000000000)
+MayMove s = Bounded s × (s.total < 1000000000)
 
 -- What an effect makes of a state, but for the ports, which the bank holds.
 pub record After (e : Effect) (s r : State) : Type 0 where

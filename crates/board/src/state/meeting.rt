@@ -3,7 +3,7 @@ ghost use Rattle.std.specs.Prelude.{◌≡◌, ℕ, ◌<◌, length, IfSome, sli
 ghost use Rattle.rules.specs.Moves.{observed, runs_at, owns_at, meet_effect};
 ghost use Rattle.tables.specs.Views.{table};
 ghost use Rattle.board.specs.Views.{local, place, portless, flags};
-ghost use Rattle.board.specs.Effects.{PlaceAfter, After, Shaped, MayMove, is_cell, observed_if, met_cell};
+ghost use Rattle.board.specs.Effects.{PlaceAfter, After, MayMove, is_cell, observed_if, met_cell};
 
 use crate::state::{Local, PlaceState, State};
 use std::array;
@@ -38,7 +38,6 @@ impl State {
 
     // The cells after the counted nexts set theirs to the word of the home; every next gets the same word.
     fn cells_met(&self, t: &Tables, counted: &[bool; 64], word: u32) -> [u32; 128]
-        requires { Shaped self.now }
         ensures size { length result ≡ 128 }
         ensures cells { (c : ℕ) → slice_index result c ≡ met_cell (table t.now) (portless self.now) (flags counted.now) word (table t.now).places c }
     {

@@ -13,7 +13,7 @@ use Rattle.tables.specs.Fit.{named, in_cells, places_in, copies_in}
 use Rattle.tables.specs.Stms.{stm, expr, copies}
 use Rattle.tables.specs.Views.{table}
 use Rattle.board.specs.Views.{place}
-use Rattle.board.specs.Effects.{After, acted, act_words, stepped, with_cells, with_places, copied, forked}
+use Rattle.board.specs.Effects.{After, Shaped, acted, act_words, stepped, with_cells, with_places, copied, forked}
 use Rattle.board.proofs.Copying.{copied_is, length_copied}
 use Rattle.board.proofs.Performing.{pass_after, fork_after, only_is, forked_few}
 use Rattle.board.proofs.state.State.perform.Goals as goal
@@ -23,6 +23,7 @@ returns-in-Set g c =
     let k = g.K.NumberKind.meaning in
     let t = table c.args.t.now in
     let s = c.args.self.now in
+    let shaped : Shaped s = (omega arith, omega arith, omega arith) in
     let p = c.args.p in
     let x = c.args.x in
     let q = c.args.point.now.place in
@@ -31,12 +32,12 @@ returns-in-Set g c =
     let d = c.in-Set.c in
     let v : ℕ = value k f (expr c.in-Set.e) in
     let n = and_parts (ltb d 128) (in_cells (expr c.in-Set.e)) (subst (λ (v : Stmt). named (stm q v) ≡ true) c.in-Set.is c.requires.named) in
-    let l : d < length s.cells = omega (arith, ltb-true d 128 n.0, c.requires.counts.0.1) in
+    let l : d < length s.cells = omega (arith, ltb-true d 128 n.0, shaped.1) in
     record {
       did =
           subst (λ (v : Stmt). After (step_effect t p (acted k t s ws x q v)) s c.step_to-in-Set.new.self) (sym c.in-Set.is)
           (subst (After (step_effect t p (acted k t s ws x q (Set d c.in-Set.e))) s) (sym (c.step_to-in-Set.ensures ∙ ap₂ (λ (u : State) a. stepped u p (Running a)) c.assign.ensures c.after-in-Set.ensures))
-          (pass_after t p (t.after x) (only d v) never s (set s.cells d v) c.requires.counts c.requires.inside (length-set s.cells d v ∙ c.requires.counts.0.1) (only_is s.cells d v l)));
+          (pass_after t p (t.after x) (only d v) never s (set s.cells d v) shaped c.requires.inside (length-set s.cells d v ∙ shaped.1) (only_is s.cells d v l)));
       ports = λ i. sym (ap (λ (v : Stmt). act_words (acted k t s ws x q v) ws i) c.in-Set.is);
     }
 
@@ -45,6 +46,7 @@ returns-in-Call g c =
     let k = g.K.NumberKind.meaning in
     let t = table c.args.t.now in
     let s = c.args.self.now in
+    let shaped : Shaped s = (omega arith, omega arith, omega arith) in
     let p = c.args.p in
     let x = c.args.x in
     let q = c.args.point.now.place in
@@ -56,7 +58,7 @@ returns-in-Call g c =
       did =
           subst (λ (v : Stmt). After (step_effect t p (acted k t s ws x q v)) s c.step_to-in-Call.new.self) (sym c.in-Call.is)
           (subst (After (step_effect t p (acted k t s ws x q (Call c.in-Call.list c.in-Call.to))) s) (sym (c.step_to-in-Call.ensures ∙ ap (λ v. stepped v p (Running c.in-Call.to)) (c.copy.ensures ∙ ap (λ v. with_cells s (copied s.cells v)) c.as_slice.ensures.value)))
-          (pass_after t p c.in-Call.to (copying f (copies list)) never s (copied s.cells list) c.requires.counts c.requires.inside (length_copied s.cells list ∙ c.requires.counts.0.1) (copied_is s.cells list c.requires.counts.0.1 n)));
+          (pass_after t p c.in-Call.to (copying f (copies list)) never s (copied s.cells list) shaped c.requires.inside (length_copied s.cells list ∙ shaped.1) (copied_is s.cells list shaped.1 n)));
       ports = λ i. sym (ap (λ (v : Stmt). act_words (acted k t s ws x q v) ws i) c.in-Call.is);
     }
 
@@ -65,6 +67,7 @@ returns-in-Test g c =
     let k = g.K.NumberKind.meaning in
     let t = table c.args.t.now in
     let s = c.args.self.now in
+    let shaped : Shaped s = (omega arith, omega arith, omega arith) in
     let p = c.args.p in
     let x = c.args.x in
     let q = c.args.point.now.place in
@@ -76,7 +79,7 @@ returns-in-Test g c =
       did =
           subst (λ (v : Stmt). After (step_effect t p (acted k t s ws x q v)) s c.step_to-in-Test.new.self) (sym c.in-Test.is)
           (subst (After (step_effect t p (acted k t s ws x q (Test c.in-Test.e c.in-Test.field-1 c.in-Test.to))) s) (sym (c.step_to-in-Test.ensures ∙ ap (λ v. stepped s p (Running v)) (sym (cond-true (eqb v 0) c.in-Test.to c.in-Test.field-1 (eq-eqb v 0 (sym c.value.ensures ∙ c.if-value-eq0.true))))))
-          (pass_after t p y nothing never s s.cells c.requires.counts c.requires.inside c.requires.counts.0.1 (λ i. refl)));
+          (pass_after t p y nothing never s s.cells shaped c.requires.inside shaped.1 (λ i. refl)));
       ports = λ i. sym (ap (λ (v : Stmt). act_words (acted k t s ws x q v) ws i) c.in-Test.is);
     }
 
@@ -85,6 +88,7 @@ returns-in-Test-2 g c =
     let k = g.K.NumberKind.meaning in
     let t = table c.args.t.now in
     let s = c.args.self.now in
+    let shaped : Shaped s = (omega arith, omega arith, omega arith) in
     let p = c.args.p in
     let x = c.args.x in
     let q = c.args.point.now.place in
@@ -100,7 +104,7 @@ returns-in-Test-2 g c =
       did =
           subst (λ (v : Stmt). After (step_effect t p (acted k t s ws x q v)) s c.step_to-in-Test-2.new.self) (sym c.in-Test.is)
           (subst (After (step_effect t p (acted k t s ws x q (Test c.in-Test.e c.in-Test.field-1 c.in-Test.to))) s) (sym (c.step_to-in-Test-2.ensures ∙ ap (λ v. stepped s p (Running v)) (same ∙ sym (cond-false (eqb v 0) c.in-Test.to c.in-Test.field-1 (ne_eqb v 0 e)))))
-          (pass_after t p y nothing never s s.cells c.requires.counts c.requires.inside c.requires.counts.0.1 (λ i. refl)));
+          (pass_after t p y nothing never s s.cells shaped c.requires.inside shaped.1 (λ i. refl)));
       ports = λ i. sym (ap (λ (v : Stmt). act_words (acted k t s ws x q v) ws i) c.in-Test.is);
     }
 
@@ -109,6 +113,7 @@ returns-in-Par g c =
     let k = g.K.NumberKind.meaning in
     let t = table c.args.t.now in
     let s = c.args.self.now in
+    let shaped : Shaped s = (omega arith, omega arith, omega arith) in
     let p = c.args.p in
     let x = c.args.x in
     let q = c.args.point.now.place in
@@ -124,7 +129,7 @@ returns-in-Par g c =
       did =
           subst (λ (v : Stmt). After (step_effect t p (acted k t s ws x q v)) s c.step_to-in-Par.new.self) (sym c.in-Par.is)
           (subst (After (step_effect t p (acted k t s ws x q (Par c.in-Par.branches c.in-Par.list))) s) (sym (c.step_to-in-Par.ensures ∙ ap (λ (v : State). stepped v p (Parted x)) r))
-          (fork_after t p x (copying f (copies list)) bs s (copied s.cells list) c.requires.counts c.requires.inside (length_copied s.cells list ∙ c.requires.counts.0.1) n.0 (copied_is s.cells list c.requires.counts.0.1 n.1)));
+          (fork_after t p x (copying f (copies list)) bs s (copied s.cells list) shaped c.requires.inside (length_copied s.cells list ∙ shaped.1) n.0 (copied_is s.cells list shaped.1 n.1)));
       ports = λ i. sym (ap (λ (v : Stmt). act_words (acted k t s ws x q v) ws i) c.in-Par.is);
     }
 
@@ -133,6 +138,7 @@ step_to-requires-in-Par g c =
     let t = table c.args.t.now in
     let q = c.args.point.now.place in
     let s = c.args.self.now in
+    let shaped : Shaped s = (omega arith, omega arith, omega arith) in
     let list : List Copied = vec_items c.in-Par.list in
     let bs : List ℕ = vec_items c.in-Par.branches in
     let n = and_parts (places_in bs) (copies_in (copies list)) (subst (λ (v : Stmt). named (stm q v) ≡ true) c.in-Par.is c.requires.named) in
@@ -141,8 +147,8 @@ step_to-requires-in-Par g c =
     c.fork.ensures ∙ ap₂ (λ (v : State) (b : List ℕ). with_places v (forked t.start v.places b)) e c.as_slice-in-Par-2.ensures.value in
     record {
       inside = c.requires.inside;
-      few = subst (λ (v : State). (q : ℕ) → (place v q).steps ≤ v.total) (sym r) (forked_few t.start s bs s.total c.requires.counts.0.0 n.0 c.requires.counts.1.0);
-      limit = subst (λ (v : State). v.total < 1000000000) (sym r) c.requires.counts.2;
+      few = subst (λ (v : State). (q : ℕ) → (place v q).steps ≤ v.total) (sym r) (forked_few t.start s bs s.total shaped.0 n.0 c.requires.counts.0.0);
+      limit = subst (λ (v : State). v.total < 1000000000) (sym r) c.requires.counts.1;
     }
 
 pub returns-in-Take : goal.returns-in-Take
@@ -150,6 +156,7 @@ returns-in-Take g c =
     let k = g.K.NumberKind.meaning in
     let t = table c.args.t.now in
     let s = c.args.self.now in
+    let shaped : Shaped s = (omega arith, omega arith, omega arith) in
     let p = c.args.p in
     let x = c.args.x in
     let q = c.args.point.now.place in
@@ -163,7 +170,7 @@ returns-in-Take g c =
           subst (λ (v : Stmt). After (step_effect t p (acted k t s ws x q v)) s c.step_to-in-Take.new.self) (sym c.in-Take.is)
           (subst (λ (v : List ℕ). After (step_effect t p (taking k i d (t.after x) z v)) s c.step_to-in-Take.new.self) (sym dry)
           (subst (After (step_effect t p (pass nothing never z)) s) (sym c.step_to-in-Take.ensures)
-          (pass_after t p z nothing never s s.cells c.requires.counts c.requires.inside c.requires.counts.0.1 (λ j. refl))));
+          (pass_after t p z nothing never s s.cells shaped c.requires.inside shaped.1 (λ j. refl))));
       ports = λ j. sym (ap (λ (v : Stmt). act_words (acted k t s ws x q v) ws j) c.in-Take.is ∙ ap (λ (v : List ℕ). act_words (taking k i d (t.after x) z v) ws j) dry);
     }
 
@@ -172,6 +179,7 @@ returns-in-Throw g c =
     let k = g.K.NumberKind.meaning in
     let t = table c.args.t.now in
     let s = c.args.self.now in
+    let shaped : Shaped s = (omega arith, omega arith, omega arith) in
     let p = c.args.p in
     let x = c.args.x in
     let q = c.args.point.now.place in
@@ -185,6 +193,6 @@ returns-in-Throw g c =
           subst (λ (v : Stmt). After (step_effect t p (acted k t s ws x q v)) s c.step_to-in-Throw.new.self) (sym c.in-Throw.is)
           (subst (λ (b : Bool). After (step_effect t p (act k t (λ c. get_or s.cells c 0) ws x (cond b (goto y) (throw o n)))) s c.step_to-in-Throw.new.self) (sym own)
           (subst (After (step_effect t p (pass nothing never y)) s) (sym c.step_to-in-Throw.ensures)
-          (pass_after t p y nothing never s s.cells c.requires.counts c.requires.inside c.requires.counts.0.1 (λ j. refl))));
+          (pass_after t p y nothing never s s.cells shaped c.requires.inside shaped.1 (λ j. refl))));
       ports = λ j. sym (ap (λ (v : Stmt). act_words (acted k t s ws x q v) ws j) c.in-Throw.is ∙ ap (λ (b : Bool). act_words (act k t (λ c. get_or s.cells c 0) ws x (cond b (goto y) (throw o n))) ws j) own);
     }
