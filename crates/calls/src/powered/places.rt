@@ -29,12 +29,9 @@ fn condition_of(at: Local) -> Condition
 fn awaited_home(t: &Tables, at: Local) -> Option<u16>
     ensures { marked result ≡ waits_for (table t.now) (local at) }
 {
-    let Local::Running(x) = at else {
-        return None;
-    };
-    match t.awaits(x) {
-        Some((_, home)) => Some(home),
-        None => None,
+    match at {
+        Local::Running(x) => t.awaits(x).map(|(_, home)| home),
+        _ => None,
     }
 }
 
