@@ -2,7 +2,7 @@
 use tables::moves::Move;
 
 // The index that is looked for, how many moves were permitted so far, and the move at the index once it was met.
-#[derive(Clone, Copy)]
+#[derive(Clone, Copy, Debug, PartialEq, Eq)]
 pub struct Scan {
     pub want: usize,
     pub count: usize,

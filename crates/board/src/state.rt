@@ -20,7 +20,7 @@ pub struct PlaceState {
 }
 
 // The places, the words of the cells, the meets of each home, and the count of all granted moves.
-#[derive(Clone, Copy)]
+#[derive(Clone, Copy, Debug, PartialEq, Eq)]
 pub struct State {
     pub places: [PlaceState; 64],
     pub cells: [u32; 128],

@@ -13,15 +13,17 @@ use rules::answers::Refusal;
 use tables::tables::Tables;
 
 // Which of the five it is.
-fn condition_of(at: Local) -> Condition
-    ensures { result ≡ condition (local at) }
-{
-    match at {
-        Local::Idle => Condition::Idle,
-        Local::Running(_) => Condition::Running,
-        Local::Parted(_) => Condition::Parted,
-        Local::Finished => Condition::Finished,
-        Local::Poisoned => Condition::Poisoned,
+impl From<Local> for Condition {
+    ghost from_gives = { λ at c. c ≡ condition (local at) };
+
+    fn from(at: Local) -> Condition {
+        match at {
+            Local::Idle => Condition::Idle,
+            Local::Running(_) => Condition::Running,
+            Local::Parted(_) => Condition::Parted,
+            Local::Finished => Condition::Finished,
+            Local::Poisoned => Condition::Poisoned,
+        }
     }
 }
 
@@ -45,7 +47,7 @@ impl<K: NumberKind, B: Bank> Board<K, B> {
         }
         let place = self.state.places[q];
         Ok(PlaceLook {
-            condition: condition_of(place.at),
+            condition: Condition::from(place.at),
             on: awaited_home(&self.tables, place.at),
             mark: place.mark,
             steps: place.steps,
