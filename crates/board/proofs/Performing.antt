@@ -7,15 +7,18 @@ use Rattle.rules.specs.Programs.{Table, elem}
 use Rattle.rules.specs.States.{Local, running, parted}
 use Rattle.rules.specs.Effects.{only, changed, one_at, later}
 use Rattle.rules.specs.Steps.{step_effect, Act, pass, fork, halt}
+use Rattle.numbers.specs.Kinds.{Meaning}
+use Rattle.tables.specs.declared.stmt.Stmt.{Stmt}
 use Rattle.lemmas.proofs.Tests.{same?}
 use Rattle.banks.specs.Banks as banks
 use Rattle.board.specs.declared.state.Local as enum
 use Rattle.board.specs.declared.state.Local.TheVariants.{Running, Parted, Finished}
 use Rattle.board.specs.declared.state.PlaceState.{PlaceState}
 use Rattle.board.specs.declared.state.State.{State}
-use Rattle.tables.specs.Fit.{places_in}
+use Rattle.tables.specs.Fit.{places_in, named}
+use Rattle.tables.specs.Stms.{stm}
 use Rattle.board.specs.Views.{idle_place, local, marked, place}
-use Rattle.board.specs.Effects.{PlaceAfter, After, Shaped, stepped, with_cells, with_places, started, forked}
+use Rattle.board.specs.Effects.{PlaceAfter, After, Shaped, acted, stepped, with_cells, with_places, started, forked}
 use Rattle.board.proofs.Copying.{get_d_set, forked_is, length_forked}
 
 -- a state whose places and cells were changed, and then one place written
@@ -110,6 +113,18 @@ fork_after t p x w bs s cs c lt n named cells =
     steps : (b : Bool) (z : PlaceState) (y : ℕ) → (cond b (record { at = Running y; mark = z.mark; steps = z.steps }) z).steps ≡ z.steps
     steps true z y = refl
     steps false z y = refl
+
+-- a statement that goes on to a point: a is what stands there, b the variant that it is
+pub passes : (k : Meaning) (t : Table) (s : State) (ws : ℕ → List ℕ) (p x q : ℕ) (a b : Stmt) (r : State) (w : ℕ → Option ℕ) (o : ℕ → Bool) (y : ℕ) (cs : List ℕ)
+    → Shaped s → p < 64 → a ≡ b → acted k t s ws x q b ≡ pass w o y → r ≡ stepped (with_cells s cs) p (Running y) → length cs ≡ 128
+    → ((c : ℕ) → get_or cs c 0 ≡ Option.get_or (w c) (get_or s.cells c 0)) → After (step_effect t p (acted k t s ws x q a)) s r
+passes k t s ws p x q a b r w o y cs sh lt is acts new n cells =
+    subst (λ (v : Stmt). After (step_effect t p (acted k t s ws x q v)) s r) (sym is)
+    (subst (λ (v : Act). After (step_effect t p v) s r) (sym acts)
+    (subst (After (step_effect t p (pass w o y)) s) (sym new) (pass_after t p y w o s cs sh lt n cells)))
+
+pub named_as : (q : ℕ) (a b : Stmt) → a ≡ b → named (stm q a) ≡ true → named (stm q b) ≡ true
+named_as q a b is e = subst (λ (v : Stmt). named (stm q v) ≡ true) is e
 
 -- a cell set
 pub only_is : (xs : List ℕ) (c w : ℕ) → c < length xs → (d : ℕ) → get_or (set xs c w) d 0 ≡ Option.get_or (only c w d) (get_or xs d 0)

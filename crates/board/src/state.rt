@@ -20,6 +20,12 @@ pub struct PlaceState {
 }
 
 // The places, the words of the cells, the meets of each home, and the count of all granted moves.
+// Its methods take the tables beside it: a board's methods call methods of an inner plain record that change it in place.
+// Cells and meets stay two arrays: an expression reads the words alone, and a meet writes many words and one count.
+// That no count is above the total is asked by `MayMove`, and is no ghost field: each equation of whole states in the
+// contracts of a step's parts would have to carry its proof.
+// A bound on a place's, a cell's or a home's number stands in each contract: a type for such numbers would be made
+// again from each number that the tables tell, and no call would be shorter.
 #[derive(Clone, Copy, Debug, PartialEq, Eq)]
 pub struct State {
     pub places: [PlaceState; 64],

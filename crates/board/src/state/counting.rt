@@ -33,6 +33,7 @@ impl State {
     pub fn counted(&self, t: &Tables, h: usize, p: usize) -> [bool; 64]
         ensures { (q : ℕ) → q < 64 → slice_index_or result q false ≡ counted (table t.now) (portless self.now) h p q }
     {
+        // Not the fill of `answers`, which goes backward: an order as a parameter is longer than this loop.
         let mut out = [false; 64];
         for q in 0..64 {
             out[q] = self.counted_one(t, h, p, q, &out);

@@ -3,6 +3,7 @@ ghost use Rattle.std.specs.Prelude.{◌≡◌, ℕ, ◌<◌, ◌≤◌, true, Li
 ghost use Rattle.std.proofs.Math.Option.{none};
 ghost use Rattle.rules.specs.Programs.{awaits};
 ghost use Rattle.rules.specs.Values.{value};
+ghost use Rattle.rules.specs.Answers.{limit};
 ghost use Rattle.rules.specs.States.{step};
 ghost use Rattle.rules.specs.Steps.{step_effect};
 ghost use Rattle.rules.specs.Moves.{effect};
@@ -28,7 +29,7 @@ impl State {
     fn step_to(&mut self, p: usize, at: Local)
         requires inside { p < 64 }
         requires few { (q : ℕ) → (place self.old q).steps ≤ self.old.total }
-        requires limit { self.old.total < 1000000000 }
+        requires under { self.old.total < limit }
         ensures { self.new ≡ stepped self.old p at }
     {
         let old = self.places[p];
@@ -73,6 +74,7 @@ impl State {
     }
 
     // One step of place `p`, which stands at the point `x`.
+    // One match over the kinds of statements, each of them in an arm here: a rule of the project.
     fn perform<K: NumberKind, B: Bank>(
         &mut self,
         t: &Tables,

@@ -1,5 +1,6 @@
 // A throw to a try of another place.
 ghost use Rattle.std.specs.Prelude.{◌≡◌, ℕ, ◌<◌};
+ghost use Rattle.rules.specs.Answers.{limit};
 ghost use Rattle.rules.specs.Steps.{raise, step_effect};
 ghost use Rattle.tables.specs.Views.{table};
 ghost use Rattle.board.specs.Effects.{PlaceAfter, After, MayMove};
@@ -12,7 +13,7 @@ use tables::tables::Tables;
 // A place after a throw of `p` to the `k`-th try of `g`: `p` is poisoned, the places between get mark 0, and `g`
 // the lesser of its mark and `k`.
 fn thrown(t: &Tables, p: usize, g: usize, k: u16, q: usize, old: PlaceState) -> PlaceState
-    requires { old.steps < 1000000000 }
+    requires { old.steps < limit }
     ensures { PlaceAfter (step_effect (table t.now) p (raise g k)) q old result }
 {
     let mark = if q == g {
