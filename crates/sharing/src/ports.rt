@@ -8,7 +8,7 @@ ghost use Rattle.sharing.specs.Standing.{Tells, part_any, node_any, nodes_any, b
 
 use crate::apart::are_apart;
 use reader::fault::{Cause, Fault, must};
-use unfold::nodes::{Branches, Got, Node, Nodes, Part};
+use unfold::nodes::{Branches, Node, Nodes, Part};
 
 // Whether the port before the blocks of a statement passes a test.
 fn part_any<F: Fn(usize) -> bool>(part: &Part, test: &F) -> bool
@@ -76,9 +76,6 @@ fn nodes_clear(us: &Nodes, others: &Nodes) -> bool
 pub fn check_ports(at: usize, branches: &Branches) -> Result<(), Fault>
     ensures { (text : List ℕ) → result ≡ must (apart (all_ports (meant text branches.now))) PortTwice at }
 {
-    let is_apart = are_apart(
-        branches,
-        &|_gots: &[Got], us: &Nodes, _others: &[Got], vs: &Nodes| { nodes_clear(us, vs) },
-    );
+    let is_apart = are_apart(branches, &|_, us, _, vs| nodes_clear(us, vs));
     must(is_apart, Cause::PortTwice, at)
 }

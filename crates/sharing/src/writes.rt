@@ -10,7 +10,7 @@ ghost use Rattle.unfold.specs.Views.{gots as variables, branches as meant};
 use crate::apart::are_apart;
 use grammar::tree::Name;
 use reader::fault::{Cause, Fault, must};
-use unfold::nodes::{Branches, Got, Nodes};
+use unfold::nodes::{Branches, Got};
 
 // Whether a variable of this name is written.
 fn is_written(text: &[u8], gots: &[Got], n: Name) -> bool
@@ -34,9 +34,7 @@ pub fn check_writes(text: &[u8], at: usize, branches: &Branches) -> Result<(), F
 {
     let is_apart = are_apart(
         branches,
-        &|gots: &[Got], _us: &Nodes, others: &[Got], _vs: &Nodes| {
-            write_apart(text, gots, others)
-        },
+        &|gots, _, others, _| write_apart(text, gots, others),
     );
     must(is_apart, Cause::WrittenTwice, at)
 }
