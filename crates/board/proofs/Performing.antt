@@ -1,18 +1,17 @@
 -- What each way of a step makes of a state.
-use Rattle.std.proofs.Common.{◌≡◌, ℕ, ◌+◌, ◌<◌, ◌≤◌, Bool, true, false, cond, eqb, List, [], ◌∷◌, length, get_or, set, sym, refl, ap, ◌∙◌, subst, inl, inr, zero-add, arith, length-set, get_or-set_other, get_or-set_same}
+use Rattle.std.proofs.Common.{◌≡◌, ℕ, ◌+◌, ◌<◌, ◌≤◌, Bool, true, false, cond, eqb, List, length, get_or, set, sym, refl, ap, ◌∙◌, subst, inl, inr, zero-add, arith, length-set, get_or-set_other, get_or-set_same}
 use mathlib.Core.Option
 use mathlib.Core.Option.{Option, some, none, map}
 use Rattle.std.proofs.lemmas.Bool.{ne_eqb, eq-eqb}
 use Rattle.rules.specs.Programs.{Table, elem}
 use Rattle.rules.specs.States.{Local, running, parted}
-use Rattle.rules.specs.Effects.{only, changed, one_at, later}
-use Rattle.rules.specs.Steps.{step_effect, Act, pass, fork, halt}
+use Rattle.rules.specs.Effects.{only, changed, one_at}
+use Rattle.rules.specs.Steps.{step_effect, Act, pass, fork}
 use Rattle.numbers.specs.Kinds.{Meaning}
 use Rattle.tables.specs.declared.stmt.Stmt.{Stmt}
 use Rattle.lemmas.proofs.Tests.{same?}
-use Rattle.banks.specs.Banks as banks
 use Rattle.board.specs.declared.state.Local as enum
-use Rattle.board.specs.declared.state.Local.TheVariants.{Running, Parted, Finished}
+use Rattle.board.specs.declared.state.Local.TheVariants.{Running, Parted}
 use Rattle.board.specs.declared.state.PlaceState.{PlaceState}
 use Rattle.board.specs.declared.state.State.{State}
 use Rattle.tables.specs.Fit.{places_in, named}
@@ -78,12 +77,6 @@ pass_after t p y w r s cs c lt n cells =
     (λ q ne. let b = rest_stay t p (running y) q (place s q) ne in record { at = b.0; mark = refl; steps = b.1 })
     (own_at p (running y) (local (place s p).at)) refl refl cells
 
-pub halt_after : (t : Table) (p : ℕ) (s : State) → Shaped s → p < 64 → After (step_effect t p halt) s (stepped s p Finished)
-halt_after t p s c lt =
-    step_to_after t p halt s s.places s.cells Finished c lt c.0 c.1
-    (λ q ne. let b = rest_stay t p (local Finished) q (place s q) ne in record { at = b.0; mark = refl; steps = b.1 })
-    (own_at p (local Finished) (local (place s p).at)) refl refl (λ k. refl)
-
 pub fork_after : (t : Table) (p x : ℕ) (w : ℕ → Option ℕ) (bs : List ℕ) (s : State) (cs : List ℕ) → Shaped s → p < 64 → length cs ≡ 128
     → places_in bs ≡ true → ((c : ℕ) → get_or cs c 0 ≡ Option.get_or (w c) (get_or s.cells c 0))
     → After (step_effect t p (fork w x bs)) s (stepped (with_places (with_cells s cs) (forked t.start s.places bs)) p (Parted x))
@@ -133,10 +126,6 @@ only_is xs c w l d = get_d_set xs c d w 0 l ∙ go (eqb d c)
     go : (b : Bool) → cond b w (get_or xs d 0) ≡ Option.get_or (cond b (some w) none) (get_or xs d 0)
     go true = refl
     go false = refl
-
-pub later_same : (xs : List ℕ) → banks.rest xs ≡ later xs
-later_same [] = refl
-later_same (x ∷ xs) = refl
 
 -- the steps of places of which some were started
 pub forked_few : (start : ℕ → ℕ) (s : State) (bs : List ℕ) (n : ℕ) → length s.places ≡ 64 → places_in bs ≡ true → ((q : ℕ) → (place s q).steps ≤ n)

@@ -34,6 +34,7 @@ impl Scan {
         ensures grows { self.new.count ≤ self.old.count + n }
         ensures list { (f : ℕ → List rules.Move) → ((i : ℕ) (m : _) → i < n → F.post permitted i m → listed m ≡ f i) → (w : ℕ) (xs : List rules.Move) → Scanned w xs self.old → Scanned w (xs ++ each f n) self.new }
     {
+        // A loop, here and below, since what a closure changes is not known after a chain.
         for i in 0..n {
             self.offer(permitted(i));
         }

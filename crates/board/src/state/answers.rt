@@ -10,6 +10,7 @@ pub(crate) fn backward<F: Fn(usize, &[bool; 64]) -> bool>(n: usize, one: F) -> [
     ensures { (g : ℕ → (ℕ → Bool) → Bool) → ((p : ℕ) (later : _) (r : _) → F.post one p later r → r ≡ g p (flags later.now)) → AnsweredFrom g n result 0 }
 {
     let mut out = [false; 64];
+    // A loop, since each answer reads those that were written before it.
     for p in (0..n).rev() {
         out[p] = one(p, &out);
     }

@@ -42,6 +42,7 @@ impl State {
         ensures cells { (c : ℕ) → slice_index result c ≡ met_cell (table t.now) (portless self.now) (flags counted.now) word (table t.now).places c }
     {
         let mut cells = self.cells;
+        // A loop, since what a closure writes is not known after a chain.
         for q in 0..t.place_count() {
             if let Some(c) = self.own_cell(t, q, counted[q]) {
                 cells[c as usize] = word;
