@@ -3,11 +3,9 @@ ghost use Rattle.banks.specs.Laws.{TakesCommute, ManyTakes, StretchReads, Counte
 
 // Takes from two ports come to the same in either order; after n takes from a port its first n words are gone;
 // a tape's words are those of the memory, and a counter's are multiples of its stride above its start.
-pub fn takes_are_orderly() -> u8
+pub fn takes_are_orderly()
     ensures commute { TakesCommute }
     ensures many { ManyTakes }
     ensures stretch { StretchReads }
     ensures counted { CountedAdds }
-{
-    0
-}
+{}

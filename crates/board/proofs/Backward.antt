@@ -1,11 +1,13 @@
--- A test by fuel over a table whose children stand after tknowing-child parents, as a loop from the last place to the first.
-use Rattle.std.proofs.Common.{◌≡◌, ℕ, zero, suc, ◌+◌, ◌-◌, ◌<◌, ◌≤◌, Bool, true, false, not, ◌&&◌, ◌||◌, eqb, List, length, get_or, set, sym, refl, ap, ◌∙◌, subst, inl, inr, arith, get_or-set_other, get_or-set_same}
+-- A test by fuel over a table whose children stand after their parents, as a loop from the last place to the first.
+use Rattle.std.proofs.Common.{◌≡◌, ℕ, zero, suc, ◌+◌, ◌-◌, ◌<◌, ◌≤◌, Bool, true, false, not, ◌&&◌, ◌||◌, eqb, List, length, set, sym, refl, ap, ◌∙◌, subst, inl, inr, arith, get_or-set_other, get_or-set_same}
 use Rattle.std.proofs.lemmas.Bool.{and_parts, eqb-true, not-true, eqb-false}
 use Rattle.rules.specs.Programs.{Table}
 use Rattle.rules.specs.Trees.{nonzero}
 use Rattle.rules.specs.States.{State, Local, idle, running, parted, finished, poisoned, live}
 use Rattle.rules.specs.Moves.{any_below}
 use Rattle.rules.specs.Tests.{child, knowing_child, ready_at, ready, spoiled_at, spoiled, is_zero}
+use Rattle.board.specs.Views.{flags}
+use Rattle.board.specs.Loops.{AnsweredFrom}
 use Rattle.lemmas.proofs.Tests.{same?}
 use Rattle.tables.proofs.Counts.{all_same, any_same}
 
@@ -18,24 +20,26 @@ module _ (n : ℕ) (G : ℕ → (ℕ → Bool) → Bool) (F : ℕ → ℕ → Bo
   fuel (suc f) (suc g) p l a b =
       step f p ∙ dep p (F f) (F g) (λ c i j. fuel f g c j (omega arith) (omega arith)) ∙ sym (step g p)
 
-  pub one_back : (r : ℕ → Bool) (p : ℕ) → p < n → ((c : ℕ) → p < c → c < n → r c ≡ F n c) → G p r ≡ F n p
-  one_back r p l e =
-      let m : ℕ = n - 1 in
-      let up : n ≡ suc m = omega arith in
-      dep p r (F m) (λ c i j. e c i j ∙ fuel n m c j (omega arith) (omega arith))
-      ∙ sym (ap (λ v. F v p) up ∙ step m p)
+  pub settled : (out : List Bool) → AnsweredFrom G n out 0 → (m p : ℕ) → n ≤ m + p → p < n → flags out p ≡ F n p
+  settled out told zero p a l = absurd (omega arith)
+  settled out told (suc m) p a l =
+      let h = told p (omega arith) l in
+      let k : ℕ = n - 1 in
+      let up : n ≡ suc k = omega arith in
+      h.2 ∙ dep p h.0 (F k) (λ c i j. h.1 c i ∙ settled out told m c (omega arith) j ∙ fuel n k c j (omega arith) (omega arith))
+      ∙ sym (ap (λ f. F f p) up ∙ step k p)
 
-  -- one turn of the loop that writes the answers
-  pub written : (out : List Bool) (i p : ℕ) (v : Bool) → i ≡ p + 1 → p < n → n ≤ length out
-      → ((q : ℕ) → i ≤ q → q < n → get_or out q false ≡ F n q) → v ≡ G p (λ c. get_or out c false)
-      → (q : ℕ) → p ≤ q → q < n → get_or (set out p v) q false ≡ F n q
-  written out i p v e l k inv is q a b =
-      elim (same? q p) [
-        | inl s ↦
-            subst (λ (x : ℕ). get_or (set out p v) x false ≡ F n x) (sym s)
-            (get_or-set_same out p v false (omega arith) ∙ is ∙ one_back (λ c. get_or out c false) p l (λ c j h. inv c (omega arith) h))
-        | inr ne ↦ get_or-set_other out p q v false ne ∙ inv q (omega arith) b
-      ]
+-- one turn of the loop that writes the answers
+pub answered_more : (g : ℕ → (ℕ → Bool) → Bool) (n : ℕ) (out : List Bool) (i p : ℕ) (v : Bool) → i ≡ p + 1 → p < length out
+    → AnsweredFrom g n out i → v ≡ g p (flags out) → AnsweredFrom g n (set out p v) p
+answered_more g n out i p v e l told new q a b =
+    elim (same? q p) [
+      | inl s ↦ subst (λ k. (u : ℕ → Bool) × ((c : ℕ) → k < c → u c ≡ flags (set out p v) c) × (flags (set out p v) k ≡ g k u)) (sym s)
+          (flags out, (λ c h. let ne : c ≡ p → ⊥ = omega arith in sym (get_or-set_other out p c v false ne)), get_or-set_same out p v false l ∙ new)
+      | inr ne ↦
+          let w = told q (omega arith) b in
+          (w.0, (λ c h. let other : c ≡ p → ⊥ = omega arith in w.1 c h ∙ sym (get_or-set_other out p c v false other)), get_or-set_other out p q v false ne ∙ w.2)
+    ]
 
 module _ (t : Table) (s : State) (h : ℕ) (low : (q : ℕ) → 0 < q → t.parent q < q) where
   child_lower : (p c : ℕ) → child t p c ≡ true → p < c
@@ -77,15 +81,14 @@ module _ (t : Table) (s : State) (h : ℕ) (low : (q : ℕ) → 0 < q → t.pare
   spoiled_dep p r u e finished = refl
   spoiled_dep p r u e poisoned = refl
 
-  pub ready_written : (out : List Bool) (i p : ℕ) (v : Bool) → i ≡ p + 1 → p < t.places → t.places ≤ length out
-      → ((q : ℕ) → i ≤ q → q < t.places → get_or out q false ≡ ready t s h t.places q) → v ≡ ready_at t s h p (λ c. get_or out c false) (s.at p)
-      → (q : ℕ) → p ≤ q → q < t.places → get_or (set out p v) q false ≡ ready t s h t.places q
-  ready_written = written t.places (λ p r. ready_at t s h p r (s.at p)) (ready t s h) (λ f p. refl) (λ p r u e. ready_dep p r u e (s.at p))
+  pub ready_settled : (out : List Bool) → AnsweredFrom (λ p r. ready_at t s h p r (s.at p)) t.places out 0
+      → (q : ℕ) → q < t.places → flags out q ≡ ready t s h t.places q
+  ready_settled out told q l =
+      settled t.places (λ p r. ready_at t s h p r (s.at p)) (ready t s h) (λ f p. refl) (λ p r u e. ready_dep p r u e (s.at p))
+      out told t.places q (omega arith) l
 
-  pub spoiled_written : (out : List Bool) (i p : ℕ) (v : Bool) → i ≡ p + 1 → p < t.places → t.places ≤ length out
-      → ((q : ℕ) → i ≤ q → q < t.places → get_or out q false ≡ spoiled t s h t.places q)
-      → v ≡ (t.knows p h && spoiled_at t s h p (λ c. get_or out c false) (s.at p))
-      → (q : ℕ) → p ≤ q → q < t.places → get_or (set out p v) q false ≡ spoiled t s h t.places q
-  spoiled_written =
-      written t.places (λ p r. t.knows p h && spoiled_at t s h p r (s.at p)) (spoiled t s h) (λ f p. refl)
-      (λ p r u e. ap (λ b. t.knows p h && b) (spoiled_dep p r u e (s.at p)))
+  pub spoiled_settled : (out : List Bool) → AnsweredFrom (λ p r. t.knows p h && spoiled_at t s h p r (s.at p)) t.places out 0
+      → (q : ℕ) → q < t.places → flags out q ≡ spoiled t s h t.places q
+  spoiled_settled out told q l =
+      settled t.places (λ p r. t.knows p h && spoiled_at t s h p r (s.at p)) (spoiled t s h) (λ f p. refl)
+      (λ p r u e. ap (λ b. t.knows p h && b) (spoiled_dep p r u e (s.at p))) out told t.places q (omega arith) l

@@ -1,8 +1,9 @@
 -- The loops that copy cells and start branches.
-use Rattle.std.proofs.Common.{◌≡◌, ℕ, zero, suc, ◌+◌, ◌<◌, Bool, true, false, cond, ◌&&◌, ◌||◌, eqb, ltb, List, [], ◌∷◌, length, get_or, drop, set, sym, refl, ap, ◌∙◌, subst, inl, inr, arith, length-set, get_or-set_other, get_or-set_same}
+use Rattle.std.proofs.Common.{◌≡◌, ℕ, zero, suc, ◌+◌, ◌<◌, Bool, true, false, cond, ◌&&◌, ◌||◌, eqb, ltb, List, [], ◌∷◌, ◌++◌, append_assoc, length, get_or, drop, set, sym, refl, ap, ◌∙◌, subst, inl, inr, arith, length-set, get_or-set_other, get_or-set_same}
 use mathlib.Core.Option
 use mathlib.Core.Option.{Option, some, none, map}
-use Rattle.std.proofs.lemmas.List.{at_drop_more}
+use Rattle.std.proofs.lemmas.List.{drop_all}
+use Rattle.std.proofs.Math.Seq.{drop-append_seam}
 use Rattle.std.proofs.lemmas.Bool.{and_parts, ltb-true, eq-eqb, ne_eqb}
 use Rattle.rules.specs.Programs.{pick, elem, Table}
 use Rattle.rules.specs.States.{State}
@@ -17,29 +18,35 @@ use Rattle.board.specs.Views.{idle_place}
 use Rattle.board.specs.Effects.{copied, started, forked, observed_by, met_cell}
 use Rattle.tables.proofs.Counts.{any_step}
 
-abbrev pub no_copy : Copied
-no_copy = record { to = 0; from = 0 }
-
-pub copies_at : (cs : List Copied) (i : ℕ) → copies_in (copies cs) ≡ true → i < length cs → ((get_or cs i no_copy).to < 128) × ((get_or cs i no_copy).from < 128)
-copies_at [] i h l = absurd (omega arith)
-copies_at (c ∷ cs) zero h l =
-    let a = and_parts (ltb c.to 128 && ltb c.from 128) (copies_in (copies cs)) h in
-    let b = and_parts (ltb c.to 128) (ltb c.from 128) a.0 in
-    (ltb-true c.to 128 b.0, ltb-true c.from 128 b.1)
-copies_at (c ∷ cs) (suc i) h l =
-    copies_at cs i (and_parts (ltb c.to 128 && ltb c.from 128) (copies_in (copies cs)) h).1 (omega arith)
-
 pub places_at : (bs : List ℕ) (i : ℕ) → places_in bs ≡ true → i < length bs → get_or bs i 0 < 64
 places_at [] i h l = absurd (omega arith)
 places_at (b ∷ bs) zero h l = ltb-true b 64 (and_parts (ltb b 64) (places_in bs) h).0
 places_at (b ∷ bs) (suc i) h l = places_at bs i (and_parts (ltb b 64) (places_in bs) h).1 (omega arith)
 
--- one turn from the last copy to the first
-pub copied_more : (old : List ℕ) (cs : List Copied) (i j : ℕ) → i ≡ j + 1 → j < length cs
-    → copied old (drop j cs) ≡ set (copied old (drop i cs)) (get_or cs j no_copy).to (get_or old (get_or cs j no_copy).from 0)
-copied_more old cs i j e l =
-    at_drop_more (copied old) cs j no_copy l
-    ∙ ap (λ n. set (copied old (drop n cs)) (get_or cs j no_copy).to (get_or old (get_or cs j no_copy).from 0)) (sym e)
+copy_within : (xs : List Copied) (x : Copied) (ys : List Copied) → copies_in (copies (xs ++ (x ∷ ys))) ≡ true → (x.to < 128) × (x.from < 128)
+copy_within [] x ys h =
+    let a = and_parts (ltb x.to 128 && ltb x.from 128) (copies_in (copies ys)) h in
+    let b = and_parts (ltb x.to 128) (ltb x.from 128) a.0 in
+    (ltb-true x.to 128 b.0, ltb-true x.from 128 b.1)
+copy_within (z ∷ xs) x ys h = copy_within xs x ys (and_parts (ltb z.to 128 && ltb z.from 128) (copies_in (copies (xs ++ (x ∷ ys)))) h).1
+
+-- from the last copy to the first: those of `rest` are left, all of them at the start
+pub all_left : (cs rest : List Copied) → rest ≡ cs → drop (length rest) cs ≡ []
+all_left cs rest e = drop_all (length rest) cs (omega (arith, ap length e))
+
+-- one turn, after which those of `left` are left
+module _ (cs rest left : List Copied) (x : Copied) (split : rest ++ drop (length rest) cs ≡ cs) (step : rest ≡ left ++ (x ∷ [])) where
+  whole : left ++ (x ∷ drop (length rest) cs) ≡ cs
+  whole = sym (append_assoc left (x ∷ []) (drop (length rest) cs)) ∙ ap (λ v. v ++ drop (length rest) cs) (sym step) ∙ split
+
+  pub next_drop : drop (length left) cs ≡ x ∷ drop (length rest) cs
+  next_drop = ap (drop (length left)) (sym whole) ∙ drop-append_seam left (x ∷ drop (length rest) cs)
+
+  pub split_next : left ++ drop (length left) cs ≡ cs
+  split_next = ap (λ v. left ++ v) next_drop ∙ whole
+
+  pub copy_in : copies_in (copies cs) ≡ true → (x.to < 128) × (x.from < 128)
+  copy_in h = copy_within left x (drop (length rest) cs) (subst (λ (v : List Copied). copies_in (copies v) ≡ true) (sym whole) h)
 
 -- what a cell holds after a write
 pub get_d_set : {A : Type 0} (xs : List A) (i j : ℕ) (v d : A) → i < length xs → get_or (set xs i v) j d ≡ cond (eqb j i) v (get_or xs j d)

@@ -7,15 +7,18 @@ use Rattle.rules.specs.Programs.{Table, elem}
 use Rattle.rules.specs.States.{Local, running, parted}
 use Rattle.rules.specs.Effects.{only, changed, one_at, later}
 use Rattle.rules.specs.Steps.{step_effect, Act, pass, fork, halt}
+use Rattle.numbers.specs.Kinds.{Meaning}
+use Rattle.tables.specs.declared.stmt.Stmt.{Stmt}
 use Rattle.lemmas.proofs.Tests.{same?}
 use Rattle.banks.specs.Banks as banks
 use Rattle.board.specs.declared.state.Local as enum
 use Rattle.board.specs.declared.state.Local.TheVariants.{Running, Parted, Finished}
 use Rattle.board.specs.declared.state.PlaceState.{PlaceState}
 use Rattle.board.specs.declared.state.State.{State}
-use Rattle.tables.specs.Fit.{places_in}
+use Rattle.tables.specs.Fit.{places_in, named}
+use Rattle.tables.specs.Stms.{stm}
 use Rattle.board.specs.Views.{idle_place, local, marked, place}
-use Rattle.board.specs.Effects.{PlaceAfter, After, Shaped, MayMove, stepped, with_cells, with_places, started, forked}
+use Rattle.board.specs.Effects.{PlaceAfter, After, Shaped, acted, stepped, with_cells, with_places, started, forked}
 use Rattle.board.proofs.Copying.{get_d_set, forked_is, length_forked}
 
 -- a state whose places and cells were changed, and then one place written
@@ -67,25 +70,25 @@ rest_stay t p l q x ne =
 own_at : (p : ℕ) (l m : Local) → l ≡ Option.get_or (only p l p) m
 own_at p l m = sym (ap (λ v. Option.get_or (cond v (some l) none) m) (eq-eqb p p refl))
 
-pub pass_after : (t : Table) (p y : ℕ) (w : ℕ → Option ℕ) (r : ℕ → Bool) (s : State) (cs : List ℕ) → MayMove s → p < 64 → length cs ≡ 128
+pub pass_after : (t : Table) (p y : ℕ) (w : ℕ → Option ℕ) (r : ℕ → Bool) (s : State) (cs : List ℕ) → Shaped s → p < 64 → length cs ≡ 128
     → ((c : ℕ) → get_or cs c 0 ≡ Option.get_or (w c) (get_or s.cells c 0))
     → After (step_effect t p (pass w r y)) s (stepped (with_cells s cs) p (Running y))
 pass_after t p y w r s cs c lt n cells =
-    step_to_after t p (pass w r y) s s.places cs (Running y) c.0 lt c.0.0 n
+    step_to_after t p (pass w r y) s s.places cs (Running y) c lt c.0 n
     (λ q ne. let b = rest_stay t p (running y) q (place s q) ne in record { at = b.0; mark = refl; steps = b.1 })
     (own_at p (running y) (local (place s p).at)) refl refl cells
 
-pub halt_after : (t : Table) (p : ℕ) (s : State) → MayMove s → p < 64 → After (step_effect t p halt) s (stepped s p Finished)
+pub halt_after : (t : Table) (p : ℕ) (s : State) → Shaped s → p < 64 → After (step_effect t p halt) s (stepped s p Finished)
 halt_after t p s c lt =
-    step_to_after t p halt s s.places s.cells Finished c.0 lt c.0.0 c.0.1
+    step_to_after t p halt s s.places s.cells Finished c lt c.0 c.1
     (λ q ne. let b = rest_stay t p (local Finished) q (place s q) ne in record { at = b.0; mark = refl; steps = b.1 })
     (own_at p (local Finished) (local (place s p).at)) refl refl (λ k. refl)
 
-pub fork_after : (t : Table) (p x : ℕ) (w : ℕ → Option ℕ) (bs : List ℕ) (s : State) (cs : List ℕ) → MayMove s → p < 64 → length cs ≡ 128
+pub fork_after : (t : Table) (p x : ℕ) (w : ℕ → Option ℕ) (bs : List ℕ) (s : State) (cs : List ℕ) → Shaped s → p < 64 → length cs ≡ 128
     → places_in bs ≡ true → ((c : ℕ) → get_or cs c 0 ≡ Option.get_or (w c) (get_or s.cells c 0))
     → After (step_effect t p (fork w x bs)) s (stepped (with_places (with_cells s cs) (forked t.start s.places bs)) p (Parted x))
 fork_after t p x w bs s cs c lt n named cells =
-    step_to_after t p (fork w x bs) s (forked t.start s.places bs) cs (Parted x) c.0 lt (length_forked t.start s.places bs ∙ c.0.0) n
+    step_to_after t p (fork w x bs) s (forked t.start s.places bs) cs (Parted x) c lt (length_forked t.start s.places bs ∙ c.0) n
     (λ q ne. record {
       at = ap (λ (v : PlaceState). local v.at) (is q) ∙ ats (elem q bs) (place s q) (t.start q) ∙ sym (ap (λ v. Option.get_or (cond v (some (parted x)) (cond (elem q bs) (some (running (t.start q))) none)) (local (place s q).at)) (ne_eqb q p ne));
       mark = ap (λ (v : PlaceState). marked v.mark) (is q) ∙ marks (elem q bs) (place s q) (t.start q);
@@ -97,7 +100,7 @@ fork_after t p x w bs s cs c lt n named cells =
     cells
   where
     is : (q : ℕ) → get_or (forked t.start s.places bs) q idle_place ≡ cond (elem q bs) (started t.start q (place s q)) (place s q)
-    is q = forked_is t.start bs s.places c.0.0 named q
+    is q = forked_is t.start bs s.places c.0 named q
 
     ats : (b : Bool) (z : PlaceState) (y : ℕ) → local (cond b (record { at = Running y; mark = z.mark; steps = z.steps }) z).at ≡ Option.get_or (cond b (some (running y)) none) (local z.at)
     ats true z y = refl
@@ -110,6 +113,18 @@ fork_after t p x w bs s cs c lt n named cells =
     steps : (b : Bool) (z : PlaceState) (y : ℕ) → (cond b (record { at = Running y; mark = z.mark; steps = z.steps }) z).steps ≡ z.steps
     steps true z y = refl
     steps false z y = refl
+
+-- a statement that goes on to a point: a is what stands there, b the variant that it is
+pub passes : (k : Meaning) (t : Table) (s : State) (ws : ℕ → List ℕ) (p x q : ℕ) (a b : Stmt) (r : State) (w : ℕ → Option ℕ) (o : ℕ → Bool) (y : ℕ) (cs : List ℕ)
+    → Shaped s → p < 64 → a ≡ b → acted k t s ws x q b ≡ pass w o y → r ≡ stepped (with_cells s cs) p (Running y) → length cs ≡ 128
+    → ((c : ℕ) → get_or cs c 0 ≡ Option.get_or (w c) (get_or s.cells c 0)) → After (step_effect t p (acted k t s ws x q a)) s r
+passes k t s ws p x q a b r w o y cs sh lt is acts new n cells =
+    subst (λ (v : Stmt). After (step_effect t p (acted k t s ws x q v)) s r) (sym is)
+    (subst (λ (v : Act). After (step_effect t p v) s r) (sym acts)
+    (subst (After (step_effect t p (pass w o y)) s) (sym new) (pass_after t p y w o s cs sh lt n cells)))
+
+pub named_as : (q : ℕ) (a b : Stmt) → a ≡ b → named (stm q a) ≡ true → named (stm q b) ≡ true
+named_as q a b is e = subst (λ (v : Stmt). named (stm q v) ≡ true) is e
 
 -- a cell set
 pub only_is : (xs : List ℕ) (c w : ℕ) → c < length xs → (d : ℕ) → get_or (set xs c w) d 0 ≡ Option.get_or (only c w d) (get_or xs d 0)

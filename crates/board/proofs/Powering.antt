@@ -16,18 +16,18 @@ same zero d q = refl
 same (suc n) d zero = refl
 same (suc n) d (suc q) = same n d q
 
--- place 0 stands so, and all else is at rest
-abbrev pub begun_with : PlaceState → State
-begun_with x =
+-- place 0 stands so, and all else as d
+abbrev pub begun_with : PlaceState → PlaceState → State
+begun_with d x =
     record {
-      places = set (replicate 64 idle_place) 0 x;
+      places = set (replicate 64 d) 0 x;
       cells = replicate 128 0;
       meets = replicate 128 0;
       total = 0;
     }
 
 abbrev begun : ℕ → State
-begun x = begun_with (record { at = Running x; mark = None; steps = 0 })
+begun x = begun_with idle_place (record { at = Running x; mark = None; steps = 0 })
 
 at_begun : (x q : ℕ) → local (place (begun x) q).at ≡ cond (eqb q 0) (running x) idle
 at_begun x zero = refl
@@ -58,9 +58,12 @@ view_begun t x e ws =
 bounded_begun : (x : ℕ) → Bounded (begun x)
 bounded_begun x = ((λ q. let e = steps_begun x q in omega arith), λ h. let e : get_or (begun x).meets h 0 ≡ 0 = same {A = ℕ} 128 0 h in omega arith)
 
-module _ (t : Table) (x : PlaceState) (e : x ≡ started t.start 0 idle_place) where
-  pub view_at_power : (ws : ℕ → List ℕ) → view (begun_with x) ws ≡ powered t ws
-  view_at_power ws = ap (λ (v : PlaceState). view (begun_with v) ws) e ∙ view_begun t (t.start 0) refl ws
+module _ (t : Table) (d x : PlaceState) (i : d ≡ idle_place) (e : x ≡ started t.start 0 d) where
+  begins : begun_with d x ≡ begun (t.start 0)
+  begins = ap (λ (v : PlaceState). begun_with v x) i ∙ ap (begun_with idle_place) (e ∙ ap (started t.start 0) i)
 
-  pub bounded_at_power : Bounded (begun_with x)
-  bounded_at_power = subst (λ (v : PlaceState). Bounded (begun_with v)) (sym e) (bounded_begun (t.start 0))
+  pub view_at_power : (ws : ℕ → List ℕ) → view (begun_with d x) ws ≡ powered t ws
+  view_at_power ws = ap (λ (v : State). view v ws) begins ∙ view_begun t (t.start 0) refl ws
+
+  pub bounded_at_power : Bounded (begun_with d x)
+  bounded_at_power = subst Bounded (sym begins) (bounded_begun (t.start 0))

@@ -1,13 +1,16 @@
 -- A scan, one move at a time.
-use Rattle.std.proofs.Common.{◌≡◌, ℕ, zero, suc, ◌+◌, ◌≤◌, List, [], ◌∷◌, ◌++◌, length, Some, sym, refl, ap, ◌∙◌, subst, append_assoc, add-one, arith}
+use Rattle.std.proofs.Common.{◌≡◌, ℕ, zero, suc, ◌+◌, ◌≤◌, List, [], ◌∷◌, ◌++◌, length, true, None, Some, sym, refl, ap, ◌∙◌, subst, append_assoc, add-one, arith}
 use mathlib.Core.Option.{some, none}
-use Rattle.std.proofs.lemmas.List.{append-nil, length_push}
+use Rattle.std.specs.declared.option.Option as std
+use Rattle.std.specs.Option.{is_some}
+use Rattle.std.proofs.lemmas.Bool.{false≢true}
+use Rattle.std.proofs.lemmas.List.{length_push}
 use Rattle.tables.specs.declared.moves.Move as name
 use Rattle.tables.specs.Views.{move}
 use Rattle.rules.specs.States.{Move}
 use Rattle.rules.specs.Listings.{nth, each}
 use Rattle.board.specs.declared.scan.Scan.{Scan}
-use Rattle.board.specs.Scans.{Scanned}
+use Rattle.board.specs.Scans.{Scanned, listed}
 
 pub nth_past : (xs : List Move) (i : ℕ) → length xs ≤ i → nth xs i ≡ none
 nth_past [] i h = refl
@@ -32,19 +35,23 @@ each_more f i w xs ys s e h =
     subst (λ (v : List Move). Scanned w v s)
     (append_assoc xs (each f i) ys ∙ ap (λ v. xs ++ v) (ap (λ v. each f i ++ v) e ∙ sym (ap (each f) (add-one i)))) h
 
-pub each_none : (f : ℕ → List Move) (w : ℕ) (xs : List Move) (s : Scan) → Scanned w xs s → Scanned w (xs ++ each f 0) s
-each_none f w xs s h = subst (λ (v : List Move). Scanned w v s) (sym (append-nil xs)) h
+module _ (s : Scan) (w : ℕ) (xs : List Move) (h : Scanned w xs s) where
+  took : (m : name.Move) → s.count ≡ s.want → Scanned w (xs ++ (move m ∷ [])) (record { want = s.want; count = s.count + 1; found = Some m })
+  took m e =
+      let a = h.0 in
+      let b = h.1 in
+      (h.0, simp length_push (omega arith), sym (nth_last xs (move m) w (omega arith)))
 
-pub took : (s : Scan) (m : name.Move) → s.count ≡ s.want → (w : ℕ) (xs : List Move) → Scanned w xs s
-    → Scanned w (xs ++ (move m ∷ [])) (record { want = s.want; count = s.count + 1; found = Some m })
-took s m e w xs h =
-    let a = h.0 in
-    let b = h.1 in
-    (h.0, simp length_push (omega arith), sym (nth_last xs (move m) w (omega arith)))
+  went : (m : name.Move) → (s.count ≡ s.want → ⊥) → Scanned w (xs ++ (move m ∷ [])) (record { want = s.want; count = s.count + 1; found = s.found })
+  went m ne =
+      let a = h.0 in
+      let b = h.1 in
+      (h.0, simp length_push (omega arith), h.2 ∙ sym (nth_other xs (move m) w (λ e. ne (omega arith))))
 
-pub went : (s : Scan) (m : name.Move) → (s.count ≡ s.want → ⊥) → (w : ℕ) (xs : List Move) → Scanned w xs s
-    → Scanned w (xs ++ (move m ∷ [])) (record { want = s.want; count = s.count + 1; found = s.found })
-went s m ne w xs h =
-    let a = h.0 in
-    let b = h.1 in
-    (h.0, simp length_push (omega arith), h.2 ∙ sym (nth_other xs (move m) w (λ e. ne (omega arith))))
+  pub offer_took : (o : std.Option name.Move) → is_some o ≡ true → s.count ≡ s.want → Scanned w (xs ++ listed o) (record { want = s.want; count = s.count + 1; found = o })
+  offer_took None t e = absurd (false≢true t)
+  offer_took (Some m) t e = took m e
+
+  pub offer_went : (o : std.Option name.Move) → is_some o ≡ true → (s.count ≡ s.want → ⊥) → Scanned w (xs ++ listed o) (record { want = s.want; count = s.count + 1; found = s.found })
+  offer_went None t ne = absurd (false≢true t)
+  offer_went (Some m) t ne = went m ne

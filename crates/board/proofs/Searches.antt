@@ -1,71 +1,35 @@
--- Loops over the children of a place: some are f and each of those is r; none is f, or some are r; none is f.
-use Rattle.std.proofs.Common.{◌≡◌, ℕ, ◌+◌, ◌<◌, Bool, true, false, not, ◌&&◌, ◌||◌, sym, refl, ap, ◌∙◌, subst, ap₂}
+-- Searches over the places after the main block, which is no child.
+use Rattle.std.proofs.Common.{◌≡◌, ℕ, suc, ◌-◌, ◌<◌, Bool, true, false, ◌&&◌, ◌||◌, List, get_or, sym, ap, ◌∙◌, ap₂, arith}
+use Rattle.std.specs.List.{list_any, list_all, range_with_len}
+use Rattle.std.proofs.lemmas.List.FromFn.{length-range_with_len, get_or-range_with_len}
 use Rattle.rules.specs.Moves.{any_below}
 use Rattle.rules.specs.Tests.{all_below}
-use Rattle.tables.proofs.Counts.{any_step, all_missed, all_more}
-use Rattle.std.proofs.lemmas.Bool.{or_left, and_right, true≢false, false≢true}
+use Rattle.tables.proofs.Counts.{any_first, any_listed, any_same, all_first, all_listed, all_same}
 
--- some below n are f, and each of those is r
-module _ (f r : ℕ → Bool) where
-  abbrev pub each : ℕ → Bool
-  each c = not (f c) || r c
+-- m is the code's count of the places
+module _ (f : ℕ → Bool) (m n : ℕ) (positive : 0 < m) (same : m ≡ n) (r : Bool) where
+  abbrev rest : List ℕ
+  rest = range_with_len 1 (m - 1)
 
-  abbrev pub Both : ℕ → Bool → Type 0
-  Both i some = (some ≡ any_below i f) × (all_below i each ≡ true)
+  all_but_one : suc (m - 1) ≡ n
+  all_but_one = omega arith
 
-  each_ready : (a b : Bool) → b ≡ true → (not a || b) ≡ true
-  each_ready true b e = e
-  each_ready false b e = refl
+  at_rest : (i : ℕ) → i < m - 1 → f (get_or rest i 0) ≡ f (suc i)
+  at_rest i l = ap f (get_or-range_with_len 1 (m - 1) i 0 l ∙ omega arith)
 
-  each_not : (a b : Bool) → a ≡ false → (not a || b) ≡ true
-  each_not true b e = absurd (true≢false e)
-  each_not false b e = refl
+  pub any_child : f 0 ≡ false → r ≡ list_any f (range_with_len 1 (m - 1)) → r ≡ any_below n f
+  any_child none e =
+      e ∙ any_listed f rest 0 ∙ ap (λ k. any_below k (λ i. f (get_or rest i 0))) (length-range_with_len 1 (m - 1))
+      ∙ any_same (m - 1) _ _ at_rest
+      ∙ sym (any_first (m - 1) f ∙ ap (λ b. b || any_below (m - 1) (λ i. f (suc i))) none)
+      ∙ ap (λ k. any_below k f) all_but_one
 
-  each_miss : (a b : Bool) → a ≡ true → b ≡ false → (not a || b) ≡ false
-  each_miss true b e h = h
-  each_miss false b e h = absurd (false≢true e)
-
-  pub both_took : (i : ℕ) (some : Bool) → Both i some → f i ≡ true → r i ≡ true → Both (i + 1) true
-  both_took i some b e h =
-      (sym (any_step f i ∙ or_left (f i) (any_below i f) e), all_more each i b.1 (each_ready (f i) (r i) h))
-
-  pub both_left : (i : ℕ) (some : Bool) → Both i some → f i ≡ false → Both (i + 1) some
-  both_left i some b e =
-      (b.0 ∙ sym (any_step f i ∙ ap (λ v. v || any_below i f) e), all_more each i b.1 (each_not (f i) (r i) e))
-
-  pub both_missed : (n i : ℕ) → i < n → f i ≡ true → r i ≡ false → false ≡ (any_below n f && all_below n each)
-  both_missed n i l e h = sym (and_right (any_below n f) (all_below n each) (all_missed each n i l (each_miss (f i) (r i) e h)))
-
-  pub both_end : (i n : ℕ) (some : Bool) → i ≡ n → Both i some → some ≡ (any_below n f && all_below n each)
-  both_end i n some e b =
-      subst (λ (v : ℕ). some ≡ (any_below v f && all_below v each)) e
-      (b.0 ∙ sym (ap (λ v. any_below i f && v) b.1 ∙ and_true (any_below i f)))
-    where
-      and_true : (b : Bool) → (b && true) ≡ b
-      and_true true = refl
-      and_true false = refl
-
-pub any_took : (f : ℕ → Bool) (i : ℕ) → f i ≡ true → true ≡ any_below (i + 1) f
-any_took f i e = sym (any_step f i ∙ or_left (f i) (any_below i f) e)
-
-pub any_left : (f : ℕ → Bool) (i : ℕ) (some : Bool) → some ≡ any_below i f → f i ≡ false → some ≡ any_below (i + 1) f
-any_left f i some b e = b ∙ sym (any_step f i ∙ ap (λ v. v || any_below i f) e)
-
-pub through_end : (f r : ℕ → Bool) (i n : ℕ) (some : Bool) → i ≡ n → some ≡ any_below i f → any_below i r ≡ false
-    → not some ≡ (not (any_below n f) || any_below n r)
-through_end f r i n some e a b =
-    subst (λ (v : ℕ). not some ≡ (not (any_below v f) || any_below v r)) e
-    (ap not a ∙ sym (ap (λ v. not (any_below i f) || v) b ∙ or_false (not (any_below i f))))
-  where
-    or_false : (b : Bool) → (b || false) ≡ b
-    or_false true = refl
-    or_false false = refl
-
-pub none_more : (f : ℕ → Bool) (i : ℕ) → all_below i (λ c. not (f c)) ≡ true → f i ≡ false → all_below (i + 1) (λ c. not (f c)) ≡ true
-none_more f i h e = all_more (λ c. not (f c)) i h (ap not e)
-
-pub none_missed : (f : ℕ → Bool) (n i : ℕ) → i < n → f i ≡ true → false ≡ all_below n (λ c. not (f c))
-none_missed f n i l e = sym (all_missed (λ c. not (f c)) n i l (ap not e))
+  pub all_children : f 0 ≡ true → r ≡ list_all f (range_with_len 1 (m - 1)) → r ≡ all_below n f
+  all_children none e =
+      e ∙ all_listed f rest 0 ∙ ap (λ k. all_below k (λ i. f (get_or rest i 0))) (length-range_with_len 1 (m - 1))
+      ∙ all_same (m - 1) _ _ at_rest
+      ∙ sym (all_first (m - 1) f ∙ ap (λ b. b && all_below (m - 1) (λ i. f (suc i))) none)
+      ∙ ap (λ k. all_below k f) all_but_one
 
 pub and_3 : (a b d e x : Bool) → a ≡ true → b ≡ true → d ≡ true → x ≡ e → x ≡ (a && (b && (d && e)))
 and_3 a b d e x i j k h = h ∙ sym (ap₂ ◌&&◌ i (ap₂ ◌&&◌ j (ap (λ v. v && e) k)))

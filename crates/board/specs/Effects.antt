@@ -4,6 +4,7 @@ use Rattle.std.proofs.Math.Option
 use Rattle.std.proofs.Math.Option.{Option, some, none}
 use Rattle.std.specs.declared.option.Option as std
 use Rattle.numbers.specs.Kinds.{Meaning}
+use Rattle.rules.specs.Answers.{limit}
 use Rattle.rules.specs.Programs.{Table}
 use Rattle.rules.specs.States.{Local}
 use Rattle.rules.specs.Effects.{Effect, changed, later}
@@ -35,7 +36,7 @@ Bounded s = ((q : ℕ) → (place s q).steps ≤ s.total) × ((h : ℕ) → slic
 
 -- A state that is below the limit of moves.
 abbrev pub MayMove : State → Type 0
-MayMove s = Shaped s × Bounded s × (s.total < 1000000000)
+MayMove s = Bounded s × (s.total < limit)
 
 -- What an effect makes of a state, but for the ports, which the bank holds.
 pub record After (e : Effect) (s r : State) : Type 0 where

@@ -1,9 +1,10 @@
 -- Parts of the rules' tests that one loop, or one turn of a loop, answers. r gives the answers for other places.
-use Rattle.std.specs.Prelude.{ℕ, Bool, not, ◌&&◌, ◌||◌, ◌==◌}
+use Rattle.std.specs.Prelude.{◌≡◌, ℕ, ◌<◌, ◌≤◌, Bool, not, ◌&&◌, ◌||◌, ◌==◌, List}
 use Rattle.rules.specs.Programs.{Table}
 use Rattle.rules.specs.States.{State, Local, live, busy}
 use Rattle.rules.specs.Readiness.{counts_child}
 use Rattle.rules.specs.Moves.{any_below}
+use Rattle.board.specs.Views.{flags}
 use Rattle.rules.specs.Tests.{all_below, child, knowing_child, spoiled_at}
 
 -- Some live child of p knows h, and every live child that knows h is ready.
@@ -38,3 +39,8 @@ no_child_busy t s p = all_below t.places (λ c. not (busy_child t s p c))
 -- q is counted from p, where r tells which places before it are.
 abbrev pub counted_one : Table → State → ℕ → ℕ → (ℕ → Bool) → ℕ → Bool
 counted_one t s h p r q = q == p || (counts_child t s h q && r (t.parent q))
+
+-- The answers out for the places from i up to n are g's, by answers that agree with out on the places after each.
+abbrev pub AnsweredFrom : (ℕ → (ℕ → Bool) → Bool) → ℕ → List Bool → ℕ → Type 0
+AnsweredFrom g n out i =
+    (p : ℕ) → i ≤ p → p < n → (u : ℕ → Bool) × ((c : ℕ) → p < c → u c ≡ flags out c) × (flags out p ≡ g p u)

@@ -18,19 +18,7 @@ pub fn value<K: NumberKind>(kind: &K, e: &Expr, cells: &[u32; 128]) -> u32
         Expr::Plus(a, b) => kind.sum(value(kind, a, cells), value(kind, b, cells)),
         Expr::Minus(a, b) => kind.difference(value(kind, a, cells), value(kind, b, cells)),
         Expr::Times(a, b) => kind.product(value(kind, a, cells), value(kind, b, cells)),
-        Expr::Less(a, b) => {
-            if kind.less(value(kind, a, cells), value(kind, b, cells)) {
-                1
-            } else {
-                0
-            }
-        }
-        Expr::Same(a, b) => {
-            if value(kind, a, cells) == value(kind, b, cells) {
-                1
-            } else {
-                0
-            }
-        }
+        Expr::Less(a, b) => u32::from(kind.less(value(kind, a, cells), value(kind, b, cells))),
+        Expr::Same(a, b) => u32::from(value(kind, a, cells) == value(kind, b, cells)),
     }
 }

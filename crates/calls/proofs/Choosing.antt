@@ -1,5 +1,5 @@
 -- A run, one choice at a time; and what the listing holds.
-use Rattle.std.proofs.Common.{◌≡◌, ℕ, zero, suc, ◌+◌, ◌%◌, ◌<◌, ◌≤◌, Bool, true, false, cond, ◌&&◌, eqb, ltb, List, [], ◌∷◌, ◌++◌, length, get_or, drop, sym, refl, ap, ◌∙◌, subst, add-zero, zero-add, arith}
+use Rattle.std.proofs.Common.{◌≡◌, ℕ, zero, suc, Some, ◌+◌, ◌%◌, ◌<◌, ◌≤◌, Bool, true, false, cond, ◌&&◌, eqb, ltb, List, [], ◌∷◌, ◌++◌, length, get_or, drop, sym, refl, ap, ◌∙◌, subst, add-zero, zero-add, arith}
 use mathlib.Core.Option.{some, none}
 use Rattle.std.proofs.lemmas.List.{drop_more}
 use Rattle.std.proofs.lemmas.Bool.{cond-true, cond-false, ne_eqb, eq-eqb, lt-ltb, le-ltb, and_parts, eqb-true}
@@ -17,7 +17,7 @@ use Rattle.rules.specs.declared.answers.Stop.{Stop}
 use Rattle.rules.specs.declared.answers.Stop.TheVariants.{Rest, Limit, End}
 use Rattle.calls.specs.Boards.{state_of}
 use Rattle.tables.specs.Views.{cells_of}
-use Rattle.calls.specs.Boards.{RunTells, last_stop}
+use Rattle.calls.specs.Boards.{RunTells, Stops, last_stop}
 use Rattle.board.specs.declared.state.State as code
 use Rattle.tables.specs.declared.tables.Tables.{Tables}
 use Rattle.tables.specs.Views.{table}
@@ -42,6 +42,11 @@ module _ (k : Meaning) (t : Table) (m : ℕ) (s : State) where
   unfolding run
   run_full [] ne full = ap (stopped s) (cond-false _ _ _ (ne_eqb _ 0 ne) ∙ cond-false _ _ _ (le-ltb _ _ full))
   run_full (c ∷ cs) ne full = cond-false _ _ _ (ne_eqb _ 0 ne) ∙ cond-false _ _ _ (le-ltb _ _ full)
+
+  pub run_stopped : (e : Stop) (n : ℕ) → n ≡ length (listing t s m) → Stops n s.total (Some e) → (cs : List ℕ) → run k t m s cs ≡ stopped s e
+  run_stopped Rest n len h cs = run_rest cs (sym len ∙ h)
+  run_stopped Limit n len h cs = run_full cs (λ e. h.0 (len ∙ e)) h.1
+  run_stopped End n len h cs = absurd h
 
   pub run_end : (e : Stop) → e ≡ last_stop t m s → run k t m s [] ≡ stopped s e
   unfolding run

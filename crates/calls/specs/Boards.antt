@@ -1,6 +1,7 @@
 -- The calls of a board: one relation for each, over actual boards.
-use Rattle.std.specs.Prelude.{◌≡◌, ℕ, cond, List, Ok, Err, Result, nat_lt}
+use Rattle.std.specs.Prelude.{◌≡◌, ℕ, ◌<◌, ◌≤◌, cond, Some, None, List, Ok, Err, Result, nat_lt}
 use Rattle.std.proofs.Math.Option.{Option, some, none, map}
+use Rattle.std.specs.declared.option.Option as std
 use Rattle.banks.specs.Banks.{Words}
 use Rattle.numbers.specs.Kinds.{Meaning}
 use Rattle.rules.specs.declared.answers.Refusal.{Refusal}
@@ -26,6 +27,13 @@ state_of words b = view b.state (words b.bank)
 abbrev pub Told : Result MoveName Refusal → Option Move → Type 0
 Told (Ok n) o = map name_of o ≡ some (name n)
 Told (Err e) o = (e ≡ NoSuch) × (o ≡ none)
+
+-- Why a board at this total grants none of n permitted moves, if it grants none.
+abbrev pub Stops : ℕ → ℕ → std.Option Stop → Type 0
+Stops n total None = (n ≡ 0 → ⊥) × (total < limit)
+Stops n total (Some Rest) = n ≡ 0
+Stops n total (Some Limit) = (n ≡ 0 → ⊥) × (limit ≤ total)
+Stops n total (Some End) = ⊥
 
 -- Why a run stops whose choices are used up.
 abbrev pub last_stop : Table → ℕ → State → Stop

@@ -1,7 +1,7 @@
 // What the looks at a cell and at a place tell.
 
 // The home of a cell, its word, and the meets of it as a home.
-#[derive(Clone, Copy)]
+#[derive(Clone, Copy, Debug, PartialEq, Eq)]
 pub struct CellLook {
     pub home: usize,
     pub value: u32,
@@ -19,7 +19,7 @@ pub enum Condition {
 }
 
 // What a place is, the home that it waits for, its mark, and how many steps it has made.
-#[derive(Clone, Copy)]
+#[derive(Clone, Copy, Debug, PartialEq, Eq)]
 pub struct PlaceLook {
     pub condition: Condition,
     pub on: Option<u16>,

@@ -1,19 +1,17 @@
 -- The parsers of expressions, a step at a time.
-use Rattle.std.proofs.Common.{◌≡◌, ℕ, zero, suc, ◌+◌, ◌-◌, ◌<◌, Bool, true, false, eqb, List, [], ◌∷◌, length, Ok, Err, codes, sym, refl, ap, ◌∙◌, inl, inr, arith, length-drop}
+use Rattle.std.proofs.Common.{◌≡◌, ℕ, zero, suc, ◌-◌, ◌<◌, Bool, true, false, eqb, List, [], ◌∷◌, length, Ok, Err, codes, sym, refl, ap, ◌∙◌, arith}
 use mathlib.Core.Option.{Option, some, none}
-use Rattle.std.proofs.lemmas.Bool.{cases_lt}
 use Rattle.reader.specs.declared.fault.Cause.TheVariants.{TooDeep}
 use Rattle.reader.specs.declared.token.Token.{Token}
 use Rattle.reader.specs.declared.token.Tag.TheVariants as tags
 use Rattle.reader.specs.Faults.{Answer, ◌>>=◌, refuse}
 use Rattle.reader.specs.Views.{lexemes}
 use Rattle.grammar.specs.Trees.{Name, Op, Exp, Use, Number, Negated, Both}
-use Rattle.grammar.specs.Parsers.{Tokens, Parser, here, rest, if_so, is, is_name, is_number, as_name, eat}
+use Rattle.grammar.specs.Parsers.{Tokens, Parser, here, rest, if_so, is, is_name, is_number, as_name, bad, eat, a_name, a_number}
 use Rattle.grammar.specs.Parsing.{Signs, op_here, chain}
 use Rattle.grammar.specs.Readers.{opened, signs_of, atom_at, level_at, grouped_at}
-use Rattle.grammar.specs.Reading.{token_at, code, from}
-use Rattle.grammar.proofs.Tags.{lexemes_length, from_past, rest_from, is_from, name_from, number_from, within, sign_within}
-use Rattle.grammar.proofs.Telling.{word, name_here, number_here}
+use Rattle.grammar.specs.Reading.{next_token, after_next}
+use Rattle.grammar.proofs.Tags.{code, test, seen, unseen, rest_from, is_from, name_from, number_from}
 
 pub grouped_step : (room : ℕ) (ts : Tokens)
     → grouped_at room ts ≡ (opened room (codes "(") ts >>= (λ t. level_at (room - 1) 4 t >>= (λ r. eat (codes ")") r.1 >>= (λ u. Ok (r.0, u)))))
@@ -67,58 +65,54 @@ op_end : (os : Signs) → op_here os [] ≡ none
 op_end [] = refl
 op_end (o ∷ os) = op_end os
 
--- ---- at an index
+-- ---- by the next token
 
-module _ (text : List ℕ) (ts : List Token) (at : ℕ) where
-  pub from_length : length (from text ts at) ≡ length ts - at
-  from_length = length-drop at (lexemes text ts) ∙ ap (λ n. n - at) (lexemes_length text ts)
+module _ (text : List ℕ) (ts : List Token) where
+  pub op_left : (os : Signs) (o : Op) → op_here os (lexemes text ts) ≡ some o → length (after_next ts) < length ts
+  op_left os o e = go ts e
+    where
+      go : (us : List Token) → op_here os (lexemes text us) ≡ some o → length (after_next us) < length us
+      go [] e = let z : ◌≡◌ {A = Option Op} none (some o) = sym (op_end os) ∙ e in absurd (let y : ◌≡◌ {A = ℕ} 0 1 = cc in omega arith)
+      go (u ∷ us) e = omega arith
 
-  pub op_within : (os : Signs) (o : Op) → op_here os (from text ts at) ≡ some o → at < length ts
-  op_within os o e =
-      elim (cases_lt at (length ts)) [
-        | inl l ↦ l
-        | inr l ↦
-            let z : ◌≡◌ {A = Option Op} none (some o) = sym (op_end os) ∙ ap (op_here os) (sym (from_past text ts at l)) ∙ e in
-            absurd (let y : ◌≡◌ {A = ℕ} 0 1 = cc in omega arith)
-      ]
-
-  pub chain_from : (os : Signs) (p : Parser Exp) (a : Exp) (k : ℕ) (o : Op) → 0 < k → op_here os (from text ts at) ≡ some o
-      → chain os p k a (from text ts at) ≡ (p (from text ts (at + 1)) >>= (λ r. chain os p (k - 1) (Both o a r.0) r.1))
-  chain_from os p a k o l e =
-      chain_more os p a (from text ts at) k o l e ∙ ap (λ u. p u >>= (λ r. chain os p (k - 1) (Both o a r.0) r.1)) (rest_from text ts at (op_within os o e))
+  pub chain_from : (us : List Token) (os : Signs) (p : Parser Exp) (a : Exp) (k : ℕ) (o : Op) → 0 < k → op_here os (lexemes text ts) ≡ some o → us ≡ after_next ts
+      → chain os p k a (lexemes text ts) ≡ (p (lexemes text us) >>= (λ r. chain os p (k - 1) (Both o a r.0) r.1))
+  chain_from us os p a k o l e h =
+      chain_more os p a (lexemes text ts) k o l e
+      ∙ ap (λ u. p u >>= (λ r. chain os p (k - 1) (Both o a r.0) r.1)) (rest_from text ts ∙ ap (lexemes text) (sym h))
 
   module _ (room : ℕ) where
-    pub operand_minus : eqb (code (token_at ts at).tag) 11 ≡ true → level_at room 0 (from text ts at) ≡ (atom_at room (from text ts (at + 1)) >>= (λ r. Ok (Negated r.0, r.1)))
-    operand_minus h =
-        level_zero room (from text ts at)
-        ∙ ap (λ b. if_so b (λ u. atom_at room (rest (from text ts at)) >>= (λ r. Ok (Negated r.0, r.1))) (λ u. atom_at room (from text ts at))) (is_from text tags.Minus refl ts at ∙ h)
-        ∙ ap (λ u. atom_at room u >>= (λ r. Ok (Negated r.0, r.1))) (rest_from text ts at (sign_within ts at tags.Minus refl h))
+    abbrev by_sign : Bool → Answer (Exp × Tokens)
+    by_sign b = if_so b (λ u. atom_at room (rest (lexemes text ts)) >>= (λ r. Ok (Negated r.0, r.1))) (λ u. atom_at room (lexemes text ts))
 
-    pub operand_plain : eqb (code (token_at ts at).tag) 11 ≡ false → level_at room 0 (from text ts at) ≡ atom_at room (from text ts at)
-    operand_plain h =
-        level_zero room (from text ts at)
-        ∙ ap (λ b. if_so b (λ u. atom_at room (rest (from text ts at)) >>= (λ r. Ok (Negated r.0, r.1))) (λ u. atom_at room (from text ts at))) (is_from text tags.Minus refl ts at ∙ h)
+    pub operand_minus : (next_token ts).tag ≡ tags.Minus → level_at room 0 (lexemes text ts) ≡ (atom_at room (lexemes text (after_next ts)) >>= (λ r. Ok (Negated r.0, r.1)))
+    operand_minus h =
+        level_zero room (lexemes text ts) ∙ ap by_sign (is_from text tags.Minus refl ts ∙ seen ts tags.Minus h)
+        ∙ ap (λ u. atom_at room u >>= (λ r. Ok (Negated r.0, r.1))) (rest_from text ts)
+
+    pub operand_plain : ((next_token ts).tag ≡ tags.Minus → ⊥) → level_at room 0 (lexemes text ts) ≡ atom_at room (lexemes text ts)
+    operand_plain n = level_zero room (lexemes text ts) ∙ ap by_sign (is_from text tags.Minus refl ts ∙ unseen ts tags.Minus n)
 
     abbrev by_class : Bool → Bool → Answer (Exp × Tokens)
     by_class a b =
-        let u = from text ts at in if_so a (λ w. Ok (Use (as_name (here u)), rest u)) (λ w. if_so b (λ w. Ok (Number (as_name (here u)), rest u)) (λ w. grouped_at room u))
+        let u = lexemes text ts in if_so a (λ w. Ok (Use (as_name (here u)), rest u)) (λ w. if_so b (λ w. Ok (Number (as_name (here u)), rest u)) (λ w. grouped_at room u))
 
-    atom_class : (a b : Bool) → eqb (code (token_at ts at).tag) 0 ≡ a → eqb (code (token_at ts at).tag) 1 ≡ b → atom_at room (from text ts at) ≡ by_class a b
+    atom_class : (a b : Bool) → test ts tags.Name ≡ a → test ts tags.Number ≡ b → atom_at room (lexemes text ts) ≡ by_class a b
     atom_class a b h k =
-        atom_step room (from text ts at) ∙ ap (λ x. by_class x (is_number (here (from text ts at)).class)) (name_from text ts at ∙ h) ∙ ap (λ x. by_class a x) (number_from text ts at ∙ k)
+        atom_step room (lexemes text ts) ∙ ap (λ x. by_class x (is_number (here (lexemes text ts)).class)) (name_from text ts ∙ h) ∙ ap (λ x. by_class a x) (number_from text ts ∙ k)
 
-    pub atom_name : (t : Token) → t ≡ token_at ts at → eqb (code (token_at ts at).tag) 0 ≡ true → atom_at room (from text ts at) ≡ Ok (Use (word text ts at t), from text ts (at + 1))
-    atom_name t e h =
-        atom_class true (eqb (code (token_at ts at).tag) 1) h refl
-        ∙ ap (λ (n : Name). Ok (Use n, rest (from text ts at))) (name_here text ts at h ∙ ap (word text ts at) (sym e))
-        ∙ ap (λ (r : Tokens). Ok (Use (word text ts at t), r)) (rest_from text ts at (within ts at 0 h refl))
+    abbrev Worded : (Name → Exp) → Bool → Answer (Exp × Tokens)
+    Worded f b =
+        let m : Answer (Name × Tokens) = if_so b (λ w. Ok (as_name (here (lexemes text ts)), rest (lexemes text ts))) (λ w. bad (lexemes text ts)) in
+        m >>= (λ r. Ok (f r.0, r.1))
 
-    pub atom_number : (t : Token) → t ≡ token_at ts at → eqb (code (token_at ts at).tag) 0 ≡ false → eqb (code (token_at ts at).tag) 1 ≡ true
-        → atom_at room (from text ts at) ≡ Ok (Number (word text ts at t), from text ts (at + 1))
-    atom_number t e h k =
-        atom_class false true h k
-        ∙ ap (λ (n : Name). Ok (Number n, rest (from text ts at))) (number_here text ts at k ∙ ap (word text ts at) (sym e))
-        ∙ ap (λ (r : Tokens). Ok (Number (word text ts at t), r)) (rest_from text ts at (within ts at 1 k refl))
+    pub atom_name : (next_token ts).tag ≡ tags.Name → atom_at room (lexemes text ts) ≡ (a_name (lexemes text ts) >>= (λ r. Ok (Use r.0, r.1)))
+    atom_name h =
+        atom_class true (test ts tags.Number) (seen ts tags.Name h) refl ∙ sym (ap (Worded Use) (name_from text ts ∙ seen ts tags.Name h))
 
-    pub atom_grouped : eqb (code (token_at ts at).tag) 0 ≡ false → eqb (code (token_at ts at).tag) 1 ≡ false → atom_at room (from text ts at) ≡ grouped_at room (from text ts at)
-    atom_grouped h k = atom_class false false h k
+    pub atom_number : (next_token ts).tag ≡ tags.Number → atom_at room (lexemes text ts) ≡ (a_number (lexemes text ts) >>= (λ r. Ok (Number r.0, r.1)))
+    atom_number h =
+        atom_class false true (ap (λ t. eqb (code t) 0) h) (seen ts tags.Number h) ∙ sym (ap (Worded Number) (number_from text ts ∙ seen ts tags.Number h))
+
+    pub atom_grouped : ((next_token ts).tag ≡ tags.Name → ⊥) → ((next_token ts).tag ≡ tags.Number → ⊥) → atom_at room (lexemes text ts) ≡ grouped_at room (lexemes text ts)
+    atom_grouped n m = atom_class false false (unseen ts tags.Name n) (unseen ts tags.Number m)

@@ -6,7 +6,6 @@ pub mod Locality
 pub mod Refusals
 pub mod Tags
 pub mod Telling
-pub mod Operators
 pub mod ExpressionSteps
 pub mod SimpleSteps
 pub mod StatementSteps

@@ -1,5 +1,5 @@
 -- The parsers of parameters, procedures and whole texts, a step at a time.
-use Rattle.std.proofs.Common.{◌≡◌, ℕ, zero, suc, ◌+◌, ◌-◌, ◌<◌, Bool, true, false, eqb, List, [], ◌∷◌, ◌++◌, length, Ok, Err, codes, refl, ap, ◌∙◌, arith}
+use Rattle.std.proofs.Common.{◌≡◌, ℕ, zero, suc, ◌-◌, ◌<◌, Bool, true, false, List, [], ◌∷◌, ◌++◌, length, Ok, Err, codes, sym, refl, ap, ◌∙◌, arith}
 use Rattle.reader.specs.declared.fault.Cause.TheVariants.{NotAllowed}
 use Rattle.reader.specs.declared.token.Token.{Token}
 use Rattle.reader.specs.declared.token.Tag.TheVariants as tags
@@ -11,8 +11,9 @@ use Rattle.grammar.specs.Views as view
 use Rattle.grammar.specs.Parsers.{Tokens, rest, if_so, is, bad, eat, a_name}
 use Rattle.grammar.specs.Parsing.{parameters, finished, parsed}
 use Rattle.grammar.specs.Readers.{opened, block_at, param_at, parameters_at, more_params_at, listed_at, proc_at, procedures_at}
-use Rattle.grammar.specs.Reading.{token_at, code, from, in_front}
-use Rattle.grammar.proofs.Tags.{rest_from, is_from, finish_from, sign_within}
+use Rattle.reader.specs.Views.{lexemes}
+use Rattle.grammar.specs.Reading.{next_token, Taken, NotTaken, in_front}
+use Rattle.grammar.proofs.Tags.{seen, unseen, rest_from, is_from, finish_from}
 use Rattle.grammar.proofs.Telling.{bad_from}
 use Rattle.grammar.proofs.SimpleSteps.{parens_step}
 
@@ -73,69 +74,68 @@ pub in_front_none : {X : Type 0} (m : Answer (List X × Tokens)) → m ≡ in_fr
 in_front_none (Ok s) = refl
 in_front_none (Err e) = refl
 
--- ---- at an index
+-- ---- by the next token
 
-module _ (text : List ℕ) (ts : List Token) (at : ℕ) where
-  abbrev Test : ℕ → Bool → Type 0
-  Test c b = eqb (code (token_at ts at).tag) c ≡ b
+module _ (text : List ℕ) (ts : List Token) where
+  abbrev ByReference : Bool → Answer (Param × Tokens)
+  ByReference b = if_so b (λ w. a_name (rest (lexemes text ts)) >>= (λ r. Ok (by_reference r.0, r.1))) (λ w. a_name (lexemes text ts) >>= (λ r. Ok (by_value r.0, r.1)))
 
-  pub param_reference : Test 8 true → param_at (from text ts at) ≡ (a_name (from text ts (at + 1)) >>= (λ r. Ok (by_reference r.0, r.1)))
-  param_reference h =
-      let u = from text ts at in
-      param_step u ∙ ap (λ b. if_so b (λ w. a_name (rest u) >>= (λ r. Ok (by_reference r.0, r.1))) (λ w. a_name u >>= (λ r. Ok (by_value r.0, r.1)))) (is_from text tags.Ampersand refl ts at ∙ h)
-      ∙ ap (λ v. a_name v >>= (λ r. Ok (by_reference r.0, r.1))) (rest_from text ts at (sign_within ts at tags.Ampersand refl h))
-
-  pub param_value : Test 8 false → param_at (from text ts at) ≡ (a_name (from text ts at) >>= (λ r. Ok (by_value r.0, r.1)))
-  param_value h =
-      let u = from text ts at in
-      param_step u ∙ ap (λ b. if_so b (λ w. a_name (rest u) >>= (λ r. Ok (by_reference r.0, r.1))) (λ w. a_name u >>= (λ r. Ok (by_value r.0, r.1)))) (is_from text tags.Ampersand refl ts at ∙ h)
+  -- whether `&` was taken is whether the parameter is by reference
+  pub param_taken : (us : List Token) (b : Bool) → (b ≡ true → Taken tags.Ampersand ts us) → (b ≡ false → NotTaken tags.Ampersand ts us)
+      → param_at (lexemes text ts) ≡ (a_name (lexemes text us) >>= (λ r. Ok (record { reference = b; name = r.0 }, r.1)))
+  param_taken us true h k =
+      param_step (lexemes text ts) ∙ ap ByReference (is_from text tags.Ampersand refl ts ∙ seen ts tags.Ampersand (h refl).0)
+      ∙ ap (λ v. a_name v >>= (λ r. Ok (by_reference r.0, r.1))) (rest_from text ts ∙ ap (lexemes text) (sym (h refl).1))
+  param_taken us false h k =
+      param_step (lexemes text ts) ∙ ap ByReference (is_from text tags.Ampersand refl ts ∙ unseen ts tags.Ampersand (k refl).0)
+      ∙ ap (λ v. a_name v >>= (λ r. Ok (by_value r.0, r.1))) (ap (lexemes text) (sym (k refl).1))
 
   abbrev Start : Bool → Answer (List Param × Tokens)
-  Start b = let u = from text ts at in if_so b (λ w. Ok ([], u)) (λ w. param_at u >>= (λ r. more_params_at 7 r.1 >>= (λ s. Ok (r.0 ∷ s.0, s.1))))
+  Start b = let u = lexemes text ts in if_so b (λ w. Ok ([], u)) (λ w. param_at u >>= (λ r. more_params_at 7 r.1 >>= (λ s. Ok (r.0 ∷ s.0, s.1))))
 
-  pub parameters_none : Test 3 true → parameters_at (from text ts at) ≡ Ok ([], from text ts at)
-  parameters_none h = parameters_step (from text ts at) ∙ ap Start (is_from text tags.CloseParen refl ts at ∙ h)
+  pub parameters_none : (next_token ts).tag ≡ tags.CloseParen → parameters_at (lexemes text ts) ≡ Ok ([], lexemes text ts)
+  parameters_none h = parameters_step (lexemes text ts) ∙ ap Start (is_from text tags.CloseParen refl ts ∙ seen ts tags.CloseParen h)
 
-  pub parameters_some : Test 3 false → parameters_at (from text ts at) ≡ (param_at (from text ts at) >>= (λ r. more_params_at 7 r.1 >>= (λ s. Ok (r.0 ∷ s.0, s.1))))
-  parameters_some h = parameters_step (from text ts at) ∙ ap Start (is_from text tags.CloseParen refl ts at ∙ h)
+  pub parameters_some : ((next_token ts).tag ≡ tags.CloseParen → ⊥) → parameters_at (lexemes text ts) ≡ (param_at (lexemes text ts) >>= (λ r. more_params_at 7 r.1 >>= (λ s. Ok (r.0 ∷ s.0, s.1))))
+  parameters_some n = parameters_step (lexemes text ts) ∙ ap Start (is_from text tags.CloseParen refl ts ∙ unseen ts tags.CloseParen n)
 
   abbrev param_or : ℕ → Bool → Answer (List Param × Tokens)
-  param_or k b = let u = from text ts at in if_so b (λ w. param_at (rest u) >>= (λ r. more_params_at k r.1 >>= (λ s. Ok (r.0 ∷ s.0, s.1)))) (λ w. Ok ([], u))
+  param_or k b = let u = lexemes text ts in if_so b (λ w. param_at (rest u) >>= (λ r. more_params_at k r.1 >>= (λ s. Ok (r.0 ∷ s.0, s.1)))) (λ w. Ok ([], u))
 
-  pub more_params_go : (k : ℕ) → (k ≡ 0 → ⊥) → Test 6 true
-      → more_params_at k (from text ts at) ≡ (param_at (from text ts (at + 1)) >>= (λ r. more_params_at (k - 1) r.1 >>= (λ s. Ok (r.0 ∷ s.0, s.1))))
-  more_params_go zero l h = absurd (l refl)
-  more_params_go (suc k) l h =
+  pub more_params_go : (us : List Token) (k : ℕ) → 0 < k → Taken tags.Comma ts us
+      → more_params_at k (lexemes text ts) ≡ (param_at (lexemes text us) >>= (λ r. more_params_at (k - 1) r.1 >>= (λ s. Ok (r.0 ∷ s.0, s.1))))
+  more_params_go us zero l h = absurd (omega arith)
+  more_params_go us (suc k) l h =
       let e : k ≡ suc k - 1 = omega arith in
-      more_params_suc k (from text ts at) ∙ ap (λ b. param_or k b) (is_from text tags.Comma refl ts at ∙ h)
-      ∙ ap (λ v. param_at v >>= (λ r. more_params_at k r.1 >>= (λ s. Ok (r.0 ∷ s.0, s.1)))) (rest_from text ts at (sign_within ts at tags.Comma refl h))
-      ∙ ap (λ n. param_at (from text ts (at + 1)) >>= (λ r. more_params_at n r.1 >>= (λ s. Ok (r.0 ∷ s.0, s.1)))) e
+      more_params_suc k (lexemes text ts) ∙ ap (λ b. param_or k b) (is_from text tags.Comma refl ts ∙ seen ts tags.Comma h.0)
+      ∙ ap (λ v. param_at v >>= (λ r. more_params_at k r.1 >>= (λ s. Ok (r.0 ∷ s.0, s.1)))) (rest_from text ts ∙ ap (lexemes text) (sym h.1))
+      ∙ ap (λ n. param_at (lexemes text us) >>= (λ r. more_params_at n r.1 >>= (λ s. Ok (r.0 ∷ s.0, s.1)))) e
 
-  pub more_params_stop : (k : ℕ) → Test 6 false → more_params_at k (from text ts at) ≡ Ok ([], from text ts at)
-  more_params_stop zero h = more_params_none 0 (from text ts at) refl
-  more_params_stop (suc k) h = more_params_suc k (from text ts at) ∙ ap (λ b. param_or k b) (is_from text tags.Comma refl ts at ∙ h)
+  pub more_params_stop : (k : ℕ) → ((next_token ts).tag ≡ tags.Comma → ⊥) → more_params_at k (lexemes text ts) ≡ Ok ([], lexemes text ts)
+  more_params_stop zero n = more_params_none 0 (lexemes text ts) refl
+  more_params_stop (suc k) n = more_params_suc k (lexemes text ts) ∙ ap (λ b. param_or k b) (is_from text tags.Comma refl ts ∙ unseen ts tags.Comma n)
 
   abbrev proc_or : ℕ → Bool → Answer (List Proc × Tokens)
-  proc_or k b = let u = from text ts at in if_so b (λ w. proc_at (rest u) >>= (λ p. procedures_at k p.1 >>= (λ ps. Ok (p.0 ∷ ps.0, ps.1)))) (λ w. Ok ([], u))
+  proc_or k b = let u = lexemes text ts in if_so b (λ w. proc_at (rest u) >>= (λ p. procedures_at k p.1 >>= (λ ps. Ok (p.0 ∷ ps.0, ps.1)))) (λ w. Ok ([], u))
 
-  pub procedures_go : (k : ℕ) → 0 < k → Test 26 true
-      → procedures_at k (from text ts at) ≡ (proc_at (from text ts (at + 1)) >>= (λ p. procedures_at (k - 1) p.1 >>= (λ ps. Ok (p.0 ∷ ps.0, ps.1))))
-  procedures_go zero l h = absurd (omega arith)
-  procedures_go (suc k) l h =
+  pub procedures_go : (us : List Token) (k : ℕ) → 0 < k → Taken tags.Proc ts us
+      → procedures_at k (lexemes text ts) ≡ (proc_at (lexemes text us) >>= (λ p. procedures_at (k - 1) p.1 >>= (λ ps. Ok (p.0 ∷ ps.0, ps.1))))
+  procedures_go us zero l h = absurd (omega arith)
+  procedures_go us (suc k) l h =
       let e : k ≡ suc k - 1 = omega arith in
-      procedures_suc k (from text ts at) ∙ ap (λ b. proc_or k b) (is_from text tags.Proc refl ts at ∙ h)
-      ∙ ap (λ v. proc_at v >>= (λ p. procedures_at k p.1 >>= (λ ps. Ok (p.0 ∷ ps.0, ps.1)))) (rest_from text ts at (sign_within ts at tags.Proc refl h))
-      ∙ ap (λ n. proc_at (from text ts (at + 1)) >>= (λ p. procedures_at n p.1 >>= (λ ps. Ok (p.0 ∷ ps.0, ps.1)))) e
+      procedures_suc k (lexemes text ts) ∙ ap (λ b. proc_or k b) (is_from text tags.Proc refl ts ∙ seen ts tags.Proc h.0)
+      ∙ ap (λ v. proc_at v >>= (λ p. procedures_at k p.1 >>= (λ ps. Ok (p.0 ∷ ps.0, ps.1)))) (rest_from text ts ∙ ap (lexemes text) (sym h.1))
+      ∙ ap (λ n. proc_at (lexemes text us) >>= (λ p. procedures_at n p.1 >>= (λ ps. Ok (p.0 ∷ ps.0, ps.1)))) e
 
-  pub procedures_stop : (k : ℕ) → 0 < k → Test 26 false → procedures_at k (from text ts at) ≡ Ok ([], from text ts at)
-  procedures_stop zero l h = absurd (omega arith)
-  procedures_stop (suc k) l h = procedures_suc k (from text ts at) ∙ ap (λ b. proc_or k b) (is_from text tags.Proc refl ts at ∙ h)
+  pub procedures_stop : (k : ℕ) → 0 < k → ((next_token ts).tag ≡ tags.Proc → ⊥) → procedures_at k (lexemes text ts) ≡ Ok ([], lexemes text ts)
+  procedures_stop zero l n = absurd (omega arith)
+  procedures_stop (suc k) l n = procedures_suc k (lexemes text ts) ∙ ap (λ b. proc_or k b) (is_from text tags.Proc refl ts ∙ unseen ts tags.Proc n)
 
   abbrev Finish : List Proc → Block → Bool → Answer Tree
-  Finish ps b x = if_so x (λ u. Ok (record { procs = ps; main = b })) (λ u. bad (from text ts at))
+  Finish ps b x = if_so x (λ u. Ok (record { procs = ps; main = b })) (λ u. bad (lexemes text ts))
 
-  pub finished_yes : (ps : List Proc) (b : Block) → Test 28 true → finished (from text ts at) ps b ≡ Ok (record { procs = ps; main = b })
-  finished_yes ps b h = ap (λ x. Finish ps b x) (finish_from text ts at ∙ h)
+  pub finished_yes : (ps : List Proc) (b : Block) → (next_token ts).tag ≡ tags.End → finished (lexemes text ts) ps b ≡ Ok (record { procs = ps; main = b })
+  finished_yes ps b h = ap (λ x. Finish ps b x) (finish_from text ts ∙ seen ts tags.End h)
 
-  pub finished_no : (ps : List Proc) (b : Block) → Test 28 false → finished (from text ts at) ps b ≡ refuse NotAllowed (token_at ts at).at
-  finished_no ps b h = ap (λ x. Finish ps b x) (finish_from text ts at ∙ h) ∙ bad_from text ts at
+  pub finished_no : (ps : List Proc) (b : Block) → ((next_token ts).tag ≡ tags.End → ⊥) → finished (lexemes text ts) ps b ≡ refuse NotAllowed (next_token ts).at
+  finished_no ps b n = ap (λ x. Finish ps b x) (finish_from text ts ∙ unseen ts tags.End n) ∙ bad_from text ts

@@ -1,6 +1,5 @@
 -- The parsers of brackets and of statements without blocks, a step at a time.
-use Rattle.std.proofs.Common.{◌≡◌, ℕ, zero, suc, ◌+◌, ◌-◌, ◌<◌, Bool, true, false, eqb, List, [], ◌∷◌, ◌++◌, length, IfOk, Ok, Err, codes, Result, sym, refl, ap, ◌∙◌, append_assoc, arith}
-use Rattle.reader.specs.declared.fault.Error.{Error}
+use Rattle.std.proofs.Common.{◌≡◌, ℕ, zero, suc, ◌-◌, ◌<◌, Bool, List, [], ◌∷◌, ◌++◌, length, Ok, Err, codes, sym, refl, ap, ◌∙◌, append_assoc, arith}
 use Rattle.reader.specs.declared.fault.Cause.TheVariants.{TooDeep}
 use Rattle.reader.specs.declared.token.Token.{Token}
 use Rattle.reader.specs.declared.token.Tag.TheVariants as tags
@@ -9,10 +8,11 @@ use Rattle.grammar.specs.declared.tree.Name as code-name
 use Rattle.grammar.specs.Trees.{Name, Simple, Set, Call, Stm, One}
 use Rattle.grammar.specs.Views as view
 use Rattle.grammar.specs.Parsers.{Tokens, Parser, here, rest, if_so, eat, a_name}
-use Rattle.grammar.specs.Parsing.{in_parens, more_names}
-use Rattle.grammar.specs.Readers.{opened, ended_name, level_at, arguments_at, caught_at, called_at, set_at, call_at, named_at, short_at}
-use Rattle.grammar.specs.Reading.{token_at, code, from, Beyond, in_front}
-use Rattle.grammar.proofs.Tags.{rest_from, is_from, sign_within}
+use Rattle.grammar.specs.Parsing.{in_parens, more_names, of_name}
+use Rattle.grammar.specs.Readers.{opened, ended_name, level_at, arguments_at, caught_at, called_at, set_at, call_at, named_at}
+use Rattle.reader.specs.Views.{lexemes}
+use Rattle.grammar.specs.Reading.{next_token, Taken, NotTaken, in_front}
+use Rattle.grammar.proofs.Tags.{seen, unseen, rest_from, is_from}
 
 -- what stands in parentheses
 pub parens_step : {A : Type 0} (room : ℕ) (p : ℕ → Parser A) (ts : Tokens)
@@ -42,8 +42,9 @@ pub call_step : (room : ℕ) (v : Name) (ts : Tokens) → call_at room v ts ≡ 
 unfolding call_at called_at
 call_step room v ts = refl
 
-pub short_step : (at : ℕ) (f : Name → Simple) (ts : Tokens) → short_at at f ts ≡ (ended_name ts >>= (λ r. Ok (One at (f r.0), r.1)))
-unfolding short_at ended_name
+-- a statement that is a word, a name and `;`
+pub short_step : (at : ℕ) (f : Name → Simple) (ts : Tokens) → of_name at f ts ≡ (ended_name ts >>= (λ r. Ok (One at (f r.0), r.1)))
+unfolding ended_name
 short_step at f ts = go (a_name ts)
   where
     ends : (n : Name) (m : Answer Tokens) → ◌≡◌ {A = Answer (Stm × Tokens)} (m >>= (λ t. Ok (One at (f n), t))) (◌>>=◌ {B = Name × Tokens} m (λ t. Ok (n, t)) >>= (λ r. Ok (One at (f r.0), r.1)))
@@ -74,52 +75,50 @@ pub names_push : (text : List ℕ) (xs : List code-name.Name) (n : code-name.Nam
 names_push text [] n = refl
 names_push text (x ∷ xs) n = ap (λ ys. view.name text x ∷ ys) (names_push text xs n)
 
--- ---- at an index
+-- ---- by the next token
 
-pub further : {V : Type 0} (r : Result (V × ℕ) Error) (ts : List Token) (at : ℕ) → IfOk r (λ v. Beyond ts (at + 1) v.1) → IfOk r (λ v. Beyond ts at v.1)
-further (Ok v) ts at h = (omega arith, h.1)
-further (Err e) ts at h = tt
+module _ (text : List ℕ) (ts : List Token) where
+  abbrev Start : Bool → Answer (List Name × Tokens)
+  Start b = let u = lexemes text ts in if_so b (λ w. Ok ([], u)) (λ w. a_name u >>= (λ r. more_names (suc (length r.1)) r.1 >>= (λ s. Ok (r.0 ∷ s.0, s.1))))
 
-module _ (text : List ℕ) (ts : List Token) (at : ℕ) where
-  abbrev Test : ℕ → Bool → Type 0
-  Test c b = eqb (code (token_at ts at).tag) c ≡ b
-
-  pub arguments_none : Test 3 true → arguments_at (from text ts at) ≡ Ok ([], from text ts at)
+  pub arguments_none : (next_token ts).tag ≡ tags.CloseParen → arguments_at (lexemes text ts) ≡ Ok ([], lexemes text ts)
   unfolding arguments_at
-  arguments_none h =
-      let u = from text ts at in
-      ap (λ b. if_so b (λ w. Ok ([], u)) (λ w. a_name u >>= (λ r. more_names (suc (length r.1)) r.1 >>= (λ s. Ok (r.0 ∷ s.0, s.1))))) (is_from text tags.CloseParen refl ts at ∙ h)
+  arguments_none h = ap Start (is_from text tags.CloseParen refl ts ∙ seen ts tags.CloseParen h)
 
-  pub arguments_some : Test 3 false → arguments_at (from text ts at) ≡ (a_name (from text ts at) >>= (λ r. more_names (suc (length r.1)) r.1 >>= (λ s. Ok (r.0 ∷ s.0, s.1))))
+  pub arguments_some : ((next_token ts).tag ≡ tags.CloseParen → ⊥) → arguments_at (lexemes text ts) ≡ (a_name (lexemes text ts) >>= (λ r. more_names (suc (length r.1)) r.1 >>= (λ s. Ok (r.0 ∷ s.0, s.1))))
   unfolding arguments_at
-  arguments_some h =
-      let u = from text ts at in
-      ap (λ b. if_so b (λ w. Ok ([], u)) (λ w. a_name u >>= (λ r. more_names (suc (length r.1)) r.1 >>= (λ s. Ok (r.0 ∷ s.0, s.1))))) (is_from text tags.CloseParen refl ts at ∙ h)
+  arguments_some n = ap Start (is_from text tags.CloseParen refl ts ∙ unseen ts tags.CloseParen n)
 
-  pub more_names_go : (k : ℕ) → 0 < k → Test 6 true → more_names k (from text ts at) ≡ (a_name (from text ts (at + 1)) >>= (λ r. more_names (k - 1) r.1 >>= (λ s. Ok (r.0 ∷ s.0, s.1))))
-  more_names_go zero l h = absurd (omega arith)
-  more_names_go (suc k) l h =
-      let u = from text ts at in
+  abbrev More : ℕ → Bool → Answer (List Name × Tokens)
+  More k b = let u = lexemes text ts in if_so b (λ w. a_name (rest u) >>= (λ r. more_names k r.1 >>= (λ s. Ok (r.0 ∷ s.0, s.1)))) (λ w. Ok ([], u))
+
+  pub more_names_go : (us : List Token) (k : ℕ) → 0 < k → Taken tags.Comma ts us → more_names k (lexemes text ts) ≡ (a_name (lexemes text us) >>= (λ r. more_names (k - 1) r.1 >>= (λ s. Ok (r.0 ∷ s.0, s.1))))
+  more_names_go us zero l h = absurd (omega arith)
+  more_names_go us (suc k) l h =
       let e : k ≡ suc k - 1 = omega arith in
-      ap (λ b. if_so b (λ w. a_name (rest u) >>= (λ r. more_names k r.1 >>= (λ s. Ok (r.0 ∷ s.0, s.1)))) (λ w. Ok ([], u))) (is_from text tags.Comma refl ts at ∙ h)
-      ∙ ap (λ v. a_name v >>= (λ r. more_names k r.1 >>= (λ s. Ok (r.0 ∷ s.0, s.1)))) (rest_from text ts at (sign_within ts at tags.Comma refl h))
-      ∙ ap (λ n. a_name (from text ts (at + 1)) >>= (λ r. more_names n r.1 >>= (λ s. Ok (r.0 ∷ s.0, s.1)))) e
+      ap (More k) (is_from text tags.Comma refl ts ∙ seen ts tags.Comma h.0)
+      ∙ ap (λ v. a_name v >>= (λ r. more_names k r.1 >>= (λ s. Ok (r.0 ∷ s.0, s.1)))) (rest_from text ts ∙ ap (lexemes text) (sym h.1))
+      ∙ ap (λ n. a_name (lexemes text us) >>= (λ r. more_names n r.1 >>= (λ s. Ok (r.0 ∷ s.0, s.1)))) e
 
-  pub more_names_stop : (k : ℕ) → 0 < k → Test 6 false → more_names k (from text ts at) ≡ Ok ([], from text ts at)
-  more_names_stop zero l h = absurd (omega arith)
-  more_names_stop (suc k) l h =
-      let u = from text ts at in
-      ap (λ b. if_so b (λ w. a_name (rest u) >>= (λ r. more_names k r.1 >>= (λ s. Ok (r.0 ∷ s.0, s.1)))) (λ w. Ok ([], u))) (is_from text tags.Comma refl ts at ∙ h)
+  pub more_names_stop : (k : ℕ) → 0 < k → ((next_token ts).tag ≡ tags.Comma → ⊥) → more_names k (lexemes text ts) ≡ Ok ([], lexemes text ts)
+  more_names_stop zero l n = absurd (omega arith)
+  more_names_stop (suc k) l n = ap (More k) (is_from text tags.Comma refl ts ∙ unseen ts tags.Comma n)
 
-  pub named_set : (room : ℕ) (v : Name) → Test 9 true → named_at room v (from text ts at) ≡ set_at room v (from text ts (at + 1))
+  abbrev Target : ℕ → Name → Bool → Answer (Stm × Tokens)
+  Target room v b = if_so b (λ w. set_at room v (rest (lexemes text ts))) (λ w. call_at room v (lexemes text ts))
+
+  pub named_set : (us : List Token) (room : ℕ) (v : Name) → Taken tags.Assign ts us
+      → named_at room v (lexemes text ts) ≡ (level_at room 4 (lexemes text us) >>= (λ e. eat (codes ";") e.1 >>= (λ t. Ok (One v.at (Set v e.0), t))))
   unfolding named_at set_at call_at
-  named_set room v h =
-      let u = from text ts at in
-      ap (λ b. if_so b (λ w. set_at room v (rest u)) (λ w. call_at room v u)) (is_from text tags.Assign refl ts at ∙ h)
-      ∙ ap (λ u. set_at room v u) (rest_from text ts at (sign_within ts at tags.Assign refl h))
+  named_set us room v h =
+      ap (Target room v) (is_from text tags.Assign refl ts ∙ seen ts tags.Assign h.0)
+      ∙ ap (set_at room v) (rest_from text ts ∙ ap (lexemes text) (sym h.1))
+      ∙ set_step room v (lexemes text us)
 
-  pub named_call : (room : ℕ) (v : Name) → Test 9 false → named_at room v (from text ts at) ≡ call_at room v (from text ts at)
+  pub named_call : (us : List Token) (room : ℕ) (v : Name) → NotTaken tags.Assign ts us
+      → named_at room v (lexemes text ts) ≡ (called_at room (lexemes text us) >>= (λ a. eat (codes ";") a.1 >>= (λ t. Ok (One v.at (Call v a.0), t))))
   unfolding named_at set_at call_at
-  named_call room v h =
-      let u = from text ts at in
-      ap (λ b. if_so b (λ w. set_at room v (rest u)) (λ w. call_at room v u)) (is_from text tags.Assign refl ts at ∙ h)
+  named_call us room v h =
+      ap (Target room v) (is_from text tags.Assign refl ts ∙ unseen ts tags.Assign h.0)
+      ∙ ap (λ u. call_at room v (lexemes text u)) (sym h.1)
+      ∙ call_step room v (lexemes text us)

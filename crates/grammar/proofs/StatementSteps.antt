@@ -1,22 +1,21 @@
 -- The parsers of statements and blocks, a step at a time.
-use Rattle.std.proofs.Common.{◌≡◌, ℕ, zero, suc, ◌+◌, ◌-◌, ◌<◌, Bool, true, false, eqb, List, [], ◌∷◌, length, Ok, Err, codes, sym, refl, ap, ◌∙◌, inl, inr, arith}
-use Rattle.std.proofs.lemmas.Bool.{cases_lt}
-use Rattle.std.proofs.lemmas.List.{get_or_past}
+use Rattle.std.proofs.Common.{◌≡◌, ℕ, zero, suc, ◌-◌, ◌<◌, Bool, false, eqb, List, [], ◌∷◌, length, Ok, Err, codes, sym, refl, ap, ◌∙◌, arith}
+use Rattle.std.proofs.lemmas.Bool.{both_ways, eq-eqb}
 use Rattle.reader.specs.declared.fault.Cause.TheVariants.{NotAllowed, TooDeep}
 use Rattle.reader.specs.declared.token.Token.{Token}
 use Rattle.reader.specs.declared.token.Tag.{Tag}
 use Rattle.reader.specs.declared.token.Tag.TheVariants as tags
 use Rattle.reader.specs.Tokens.{Lexeme}
 use Rattle.reader.specs.Faults.{Answer, ◌>>=◌, refuse}
-use Rattle.reader.specs.Views.{class_of, spelled, part}
-use Rattle.grammar.specs.Trees.{If, While, Try, Take, Plain, Var, Next, Know, Throw, Stm, Two, Par, Block, Nil, Seq, Blocks, Last, Also}
+use Rattle.reader.specs.Views.{class_of, spelled, part, lexemes}
+use Rattle.grammar.specs.Trees.{If, While, Try, Take, Plain, Var, Next, Know, Throw, Simple, Name, Stm, One, Two, Par, Block, Nil, Seq, Blocks, Last, Also}
 use Rattle.grammar.specs.Parsers.{Tokens, Parser, here, if_so, is, eat, a_name, a_number}
 use Rattle.grammar.specs.Readers.{
   opened,
   grouped_at,
   caught_at,
   named_at,
-  short_at,
+  ended_name,
   block_at,
   statement_at,
   statements_at,
@@ -28,8 +27,9 @@ use Rattle.grammar.specs.Readers.{
   par_at,
   branches_at,
 }
-use Rattle.grammar.specs.Reading.{token_at, code, from}
-use Rattle.grammar.proofs.Tags.{from_more, from_past, is_from, seen, within}
+use Rattle.grammar.specs.Reading.{next_token, after_next}
+use Rattle.grammar.proofs.Tags.{code, seen, unseen, is_from}
+use Rattle.grammar.proofs.SimpleSteps.{short_step}
 
 block_suc : (room : ℕ) (ts : Tokens) → block_at (suc room) ts ≡ (eat (codes "{") ts >>= (λ t. statements_at room (suc (length t)) t >>= (λ b. eat (codes "}") b.1 >>= (λ u. Ok (b.0, u)))))
 unfolding block_at statements_at
@@ -94,101 +94,107 @@ branches_suc : (room n : ℕ) (ts : Tokens)
 unfolding branches_at block_at
 branches_suc room n ts = refl
 
--- ---- at an index
+-- ---- by the next token
 
-module _ (text : List ℕ) (ts : List Token) (at room : ℕ) where
-  abbrev Test : ℕ → Bool → Type 0
-  Test c b = eqb (code (token_at ts at).tag) c ≡ b
-
+module _ (text : List ℕ) (ts : List Token) (room : ℕ) where
   abbrev Choice : ℕ → Bool → Answer (Block × Tokens)
-  Choice n b = let u = from text ts at in if_so b (λ w. Ok (Nil, u)) (λ w. statement_at room u >>= (λ s. statements_at room n s.1 >>= (λ b. Ok (Seq s.0 b.0, b.1))))
+  Choice n b = let u = lexemes text ts in if_so b (λ w. Ok (Nil, u)) (λ w. statement_at room u >>= (λ s. statements_at room n s.1 >>= (λ b. Ok (Seq s.0 b.0, b.1))))
 
-  pub statements_none : (n : ℕ) → 0 < n → Test 5 true → statements_at room n (from text ts at) ≡ Ok (Nil, from text ts at)
+  pub statements_none : (n : ℕ) → 0 < n → (next_token ts).tag ≡ tags.CloseBrace → statements_at room n (lexemes text ts) ≡ Ok (Nil, lexemes text ts)
   statements_none zero l h = absurd (omega arith)
-  statements_none (suc n) l h = statements_suc room n (from text ts at) ∙ ap (λ b. Choice n b) (is_from text tags.CloseBrace refl ts at ∙ h)
+  statements_none (suc n) l h = statements_suc room n (lexemes text ts) ∙ ap (λ b. Choice n b) (is_from text tags.CloseBrace refl ts ∙ seen ts tags.CloseBrace h)
 
-  pub statements_more : (n : ℕ) → 0 < n → Test 5 false
-      → statements_at room n (from text ts at) ≡ (statement_at room (from text ts at) >>= (λ s. statements_at room (n - 1) s.1 >>= (λ b. Ok (Seq s.0 b.0, b.1))))
+  pub statements_more : (n : ℕ) → 0 < n → ((next_token ts).tag ≡ tags.CloseBrace → ⊥)
+      → statements_at room n (lexemes text ts) ≡ (statement_at room (lexemes text ts) >>= (λ s. statements_at room (n - 1) s.1 >>= (λ b. Ok (Seq s.0 b.0, b.1))))
   statements_more zero l h = absurd (omega arith)
   statements_more (suc n) l h =
       let e : n ≡ suc n - 1 = omega arith in
-      statements_suc room n (from text ts at) ∙ ap (λ b. Choice n b) (is_from text tags.CloseBrace refl ts at ∙ h)
-      ∙ ap (λ m. statement_at room (from text ts at) >>= (λ s. statements_at room m s.1 >>= (λ b. Ok (Seq s.0 b.0, b.1)))) e
+      statements_suc room n (lexemes text ts) ∙ ap (λ b. Choice n b) (is_from text tags.CloseBrace refl ts ∙ unseen ts tags.CloseBrace h)
+      ∙ ap (λ m. statement_at room (lexemes text ts) >>= (λ s. statements_at room m s.1 >>= (λ b. Ok (Seq s.0 b.0, b.1)))) e
 
   abbrev Branch : ℕ → Bool → Answer (Blocks × Tokens)
-  Branch n b = let u = from text ts at in if_so b (λ w. block_at room u >>= (λ r. branches_at room n r.1 >>= (λ s. Ok (Also r.0 s.0, s.1)))) (λ w. Ok (Last, u))
+  Branch n b = let u = lexemes text ts in if_so b (λ w. block_at room u >>= (λ r. branches_at room n r.1 >>= (λ s. Ok (Also r.0 s.0, s.1)))) (λ w. Ok (Last, u))
 
-  pub branches_stop : (n : ℕ) → (n ≡ 0 → ⊥) → Test 4 false → branches_at room n (from text ts at) ≡ Ok (Last, from text ts at)
-  branches_stop zero l h = absurd (l refl)
-  branches_stop (suc n) l h = branches_suc room n (from text ts at) ∙ ap (λ b. Branch n b) (is_from text tags.OpenBrace refl ts at ∙ h)
+  pub branches_stop : (n : ℕ) → ((next_token ts).tag ≡ tags.OpenBrace → ⊥) → branches_at room n (lexemes text ts) ≡ Ok (Last, lexemes text ts)
+  branches_stop zero h = branches_none room zero (lexemes text ts) refl
+  branches_stop (suc n) h = branches_suc room n (lexemes text ts) ∙ ap (λ b. Branch n b) (is_from text tags.OpenBrace refl ts ∙ unseen ts tags.OpenBrace h)
 
-  pub branches_more : (n : ℕ) → (n ≡ 0 → ⊥) → Test 4 true
-      → branches_at room n (from text ts at) ≡ (block_at room (from text ts at) >>= (λ r. branches_at room (n - 1) r.1 >>= (λ s. Ok (Also r.0 s.0, s.1))))
+  pub branches_more : (n : ℕ) → (n ≡ 0 → ⊥) → (next_token ts).tag ≡ tags.OpenBrace
+      → branches_at room n (lexemes text ts) ≡ (block_at room (lexemes text ts) >>= (λ r. branches_at room (n - 1) r.1 >>= (λ s. Ok (Also r.0 s.0, s.1))))
   branches_more zero l h = absurd (l refl)
   branches_more (suc n) l h =
       let e : n ≡ suc n - 1 = omega arith in
-      branches_suc room n (from text ts at) ∙ ap (λ b. Branch n b) (is_from text tags.OpenBrace refl ts at ∙ h)
-      ∙ ap (λ m. block_at room (from text ts at) >>= (λ r. branches_at room m r.1 >>= (λ s. Ok (Also r.0 s.0, s.1)))) e
+      branches_suc room n (lexemes text ts) ∙ ap (λ b. Branch n b) (is_from text tags.OpenBrace refl ts ∙ seen ts tags.OpenBrace h)
+      ∙ ap (λ m. block_at room (lexemes text ts) >>= (λ r. branches_at room m r.1 >>= (λ s. Ok (Also r.0 s.0, s.1)))) e
 
 -- ---- statements, by their first tokens
 
 abbrev lexeme : Token → List ℕ → Tag → Lexeme
 lexeme w text t = record { class = class_of t; text = spelled (part text w.at w.len) t; at = w.at }
 
-module _ (text : List ℕ) (ts : List Token) (at room : ℕ) (w : Token) (e : w ≡ token_at ts at) where
-  -- the token at an index, of a known tag, and those after it
-  first_is : (t : Tag) → w.tag ≡ t → eqb 28 (code t) ≡ false → from text ts at ≡ lexeme w text t ∷ from text ts (at + 1)
-  first_is t h n =
-      from_more text ts at (within ts at (code t) (seen ts at w t e h) n)
-      ∙ ap (λ (x : Token). lexeme x text x.tag ∷ from text ts (at + 1)) (sym e)
-      ∙ ap (λ (g : Tag). lexeme w text g ∷ from text ts (at + 1)) h
+no_token : {B : Type 0} (t : Tag) → tags.End ≡ t → eqb 28 (code t) ≡ false → B
+no_token t h n = absurd (both_ways (eqb 28 (code t)) n (eq-eqb 28 (code t) (ap code h)))
 
+-- the next token, of a known tag, and those after it
+module _ (text : List ℕ) (room : ℕ) where
+  first_is : (ts : List Token) (t : Tag) → (next_token ts).tag ≡ t → eqb 28 (code t) ≡ false → lexemes text ts ≡ lexeme (next_token ts) text t ∷ lexemes text (after_next ts)
+  first_is [] t h n = no_token t h n
+  first_is (w ∷ ts) t h n = ap (λ (g : Tag). lexeme w text g ∷ lexemes text ts) h
+
+module _ (text : List ℕ) (ts : List Token) (room : ℕ) where
   abbrev Begins : Tag → Parser Stm → Type 0
-  Begins t p = w.tag ≡ t → statement_at room (from text ts at) ≡ p (from text ts (at + 1))
+  Begins t p = (next_token ts).tag ≡ t → statement_at room (lexemes text ts) ≡ p (lexemes text (after_next ts))
 
-  pub begins_Name : Begins tags.Name (named_at room (record { text = part text w.at w.len; at = w.at }))
+  begun : (t : Tag) → eqb 28 (code t) ≡ false → (next_token ts).tag ≡ t → statement_at room (lexemes text ts) ≡ statement_at room (lexeme (next_token ts) text t ∷ lexemes text (after_next ts))
+  begun t n h = ap (λ u. statement_at room u) (first_is text room ts t h n)
+
+  -- a name and `;`
+  abbrev Short : (Name → Simple) → Parser Stm
+  Short f u = ended_name u >>= (λ r. Ok (One (next_token ts).at (f r.0), r.1))
+
+  pub begins_Name : Begins tags.Name (named_at room (record { text = part text (next_token ts).at (next_token ts).len; at = (next_token ts).at }))
   unfolding statement_at named_at
-  begins_Name h = ap (λ u. statement_at room u) (first_is tags.Name h refl)
+  begins_Name h = begun tags.Name refl h
 
-  pub begins_Var : Begins tags.Var (short_at w.at Var)
-  unfolding statement_at short_at
-  begins_Var h = ap (λ u. statement_at room u) (first_is tags.Var h refl)
+  pub begins_Var : Begins tags.Var (Short Var)
+  unfolding statement_at
+  begins_Var h = begun tags.Var refl h ∙ short_step (next_token ts).at Var (lexemes text (after_next ts))
 
-  pub begins_Next : Begins tags.Next (short_at w.at Next)
-  unfolding statement_at short_at
-  begins_Next h = ap (λ u. statement_at room u) (first_is tags.Next h refl)
+  pub begins_Next : Begins tags.Next (Short Next)
+  unfolding statement_at
+  begins_Next h = begun tags.Next refl h ∙ short_step (next_token ts).at Next (lexemes text (after_next ts))
 
-  pub begins_Know : Begins tags.Know (short_at w.at Know)
-  unfolding statement_at short_at
-  begins_Know h = ap (λ u. statement_at room u) (first_is tags.Know h refl)
+  pub begins_Know : Begins tags.Know (Short Know)
+  unfolding statement_at
+  begins_Know h = begun tags.Know refl h ∙ short_step (next_token ts).at Know (lexemes text (after_next ts))
 
-  pub begins_Throw : Begins tags.Throw (short_at w.at Throw)
-  unfolding statement_at short_at
-  begins_Throw h = ap (λ u. statement_at room u) (first_is tags.Throw h refl)
+  pub begins_Throw : Begins tags.Throw (Short Throw)
+  unfolding statement_at
+  begins_Throw h = begun tags.Throw refl h ∙ short_step (next_token ts).at Throw (lexemes text (after_next ts))
 
-  pub begins_If : Begins tags.If (if_at room w.at)
+  pub begins_If : Begins tags.If (if_at room (next_token ts).at)
   unfolding statement_at if_at
-  begins_If h = ap (λ u. statement_at room u) (first_is tags.If h refl)
+  begins_If h = begun tags.If refl h
 
-  pub begins_While : Begins tags.While (while_at room w.at)
+  pub begins_While : Begins tags.While (while_at room (next_token ts).at)
   unfolding statement_at while_at
-  begins_While h = ap (λ u. statement_at room u) (first_is tags.While h refl)
+  begins_While h = begun tags.While refl h
 
-  pub begins_Try : Begins tags.Try (try_at room w.at)
+  pub begins_Try : Begins tags.Try (try_at room (next_token ts).at)
   unfolding statement_at try_at
-  begins_Try h = ap (λ u. statement_at room u) (first_is tags.Try h refl)
+  begins_Try h = begun tags.Try refl h
 
-  pub begins_Take : Begins tags.Take (take_at room w.at)
+  pub begins_Take : Begins tags.Take (take_at room (next_token ts).at)
   unfolding statement_at take_at
-  begins_Take h = ap (λ u. statement_at room u) (first_is tags.Take h refl)
+  begins_Take h = begun tags.Take refl h
 
-  pub begins_Par : Begins tags.Par (par_at room w.at)
+  pub begins_Par : Begins tags.Par (par_at room (next_token ts).at)
   unfolding statement_at par_at
-  begins_Par h = ap (λ u. statement_at room u) (first_is tags.Par h refl)
+  begins_Par h = begun tags.Par refl h
 
-  pub begins_OpenBrace : w.tag ≡ tags.OpenBrace → statement_at room (from text ts at) ≡ plain_at room w.at (from text ts at)
+  pub begins_OpenBrace : (next_token ts).tag ≡ tags.OpenBrace → statement_at room (lexemes text ts) ≡ plain_at room (next_token ts).at (lexemes text ts)
   unfolding statement_at plain_at
-  begins_OpenBrace h = let i = first_is tags.OpenBrace h refl in ap (λ u. statement_at room u) i ∙ ap (λ u. plain_at room w.at u) (sym i)
+  begins_OpenBrace h = let i = first_is text room ts tags.OpenBrace h refl in ap (λ u. statement_at room u) i ∙ ap (λ u. plain_at room (next_token ts).at u) (sym i)
 
 -- a tag that no statement begins with
 module _ (room : ℕ) (w : List ℕ) (o : ℕ) (r : Tokens) where
@@ -229,14 +235,7 @@ nothing : (room : ℕ) → statement_at room [] ≡ refuse NotAllowed 0
 unfolding statement_at
 nothing room = refl
 
-module _ (text : List ℕ) (ts : List Token) (at room : ℕ) (w : Token) (e : w ≡ token_at ts at) where
-  pub begins_none : (w.tag ≡ tags.Name → ⊥) → (w.tag ≡ tags.OpenBrace → ⊥) → (w.tag ≡ tags.Var → ⊥) → (w.tag ≡ tags.Next → ⊥) → (w.tag ≡ tags.Know → ⊥) → (w.tag ≡ tags.Throw → ⊥) → (w.tag ≡ tags.If → ⊥) → (w.tag ≡ tags.While → ⊥) → (w.tag ≡ tags.Try → ⊥) → (w.tag ≡ tags.Take → ⊥) → (w.tag ≡ tags.Par → ⊥)
-      → statement_at room (from text ts at) ≡ refuse NotAllowed (token_at ts at).at
-  begins_none nName nOpenBrace nVar nNext nKnow nThrow nIf nWhile nTry nTake nPar =
-      elim (cases_lt at (length ts)) [
-        | inl l ↦
-            ap (λ u. statement_at room u) (from_more text ts at l)
-            ∙ other room (part text (token_at ts at).at (token_at ts at).len) (token_at ts at).at (from text ts (at + 1)) (token_at ts at).tag
-            (λ q. nName (ap (λ (x : Token). x.tag) e ∙ q)) (λ q. nOpenBrace (ap (λ (x : Token). x.tag) e ∙ q)) (λ q. nVar (ap (λ (x : Token). x.tag) e ∙ q)) (λ q. nNext (ap (λ (x : Token). x.tag) e ∙ q)) (λ q. nKnow (ap (λ (x : Token). x.tag) e ∙ q)) (λ q. nThrow (ap (λ (x : Token). x.tag) e ∙ q)) (λ q. nIf (ap (λ (x : Token). x.tag) e ∙ q)) (λ q. nWhile (ap (λ (x : Token). x.tag) e ∙ q)) (λ q. nTry (ap (λ (x : Token). x.tag) e ∙ q)) (λ q. nTake (ap (λ (x : Token). x.tag) e ∙ q)) (λ q. nPar (ap (λ (x : Token). x.tag) e ∙ q))
-        | inr l ↦ ap (λ u. statement_at room u) (from_past text ts at l) ∙ nothing room ∙ ap (λ (x : Token). refuse NotAllowed x.at) (sym (get_or_past ts at (record { tag = tags.End; at = 0; len = 0 }) l))
-      ]
+pub begins_none : (text : List ℕ) (ts : List Token) (room : ℕ) → ((next_token ts).tag ≡ tags.Name → ⊥) → ((next_token ts).tag ≡ tags.OpenBrace → ⊥) → ((next_token ts).tag ≡ tags.Var → ⊥) → ((next_token ts).tag ≡ tags.Next → ⊥) → ((next_token ts).tag ≡ tags.Know → ⊥) → ((next_token ts).tag ≡ tags.Throw → ⊥) → ((next_token ts).tag ≡ tags.If → ⊥) → ((next_token ts).tag ≡ tags.While → ⊥) → ((next_token ts).tag ≡ tags.Try → ⊥) → ((next_token ts).tag ≡ tags.Take → ⊥) → ((next_token ts).tag ≡ tags.Par → ⊥)
+    → statement_at room (lexemes text ts) ≡ refuse NotAllowed (next_token ts).at
+begins_none text [] room nName nOpenBrace nVar nNext nKnow nThrow nIf nWhile nTry nTake nPar = nothing room
+begins_none text (w ∷ ts) room nName nOpenBrace nVar nNext nKnow nThrow nIf nWhile nTry nTake nPar = other room (part text w.at w.len) w.at (lexemes text ts) w.tag nName nOpenBrace nVar nNext nKnow nThrow nIf nWhile nTry nTake nPar

@@ -1,6 +1,8 @@
--- What a tag says of the token that stands at an index. Facts on all tags are computed over the table of tags.
-use Rattle.std.proofs.Common.{◌≡◌, ℕ, zero, suc, ◌+◌, ◌<◌, ◌≤◌, Bool, true, false, not, ◌&&◌, ◌||◌, T, eqb, List, [], ◌∷◌, length, get_or, sym, refl, ap, ◌∙◌, subst, inl, inr, add-one, arith}
-use Rattle.std.proofs.lemmas.List.{drop_all, get_or_past}
+-- What a tag says of the next token. Facts on all tags are computed over the table of tags.
+use Rattle.std.proofs.Common.{Decides, ◌≡◌, ℕ, zero, suc, ◌<◌, Bool, true, false, not, ◌&&◌, ◌||◌, T, eqb, List, [], ◌∷◌, length, get_or, sym, refl, ap, ◌∙◌, subst, inl, inr, arith}
+use denote.Enum.Bare.{tag_one}
+use denote.Enum.Declared.{tag_of}
+use Rattle.reader.specs.contracts.token.Tag.{the_type}
 use Rattle.std.proofs.lemmas.Bool.{cases_lt, both_ways, eq-eqb, ne_eqb}
 use Rattle.lemmas.proofs.Tests.{T_and}
 use Rattle.reader.specs.declared.token.Token.{Token}
@@ -39,46 +41,50 @@ use Rattle.reader.specs.declared.token.Tag.TheVariants.{
 use Rattle.reader.specs.Tokens.{Lexeme, Class, fixed, same}
 use Rattle.reader.specs.Views.{class_of, spelled, part, lexeme_of, lexemes}
 use Rattle.grammar.specs.Parsers.{here, rest, is, is_fixed, is_name, is_number, is_finish}
-use Rattle.grammar.specs.Reading.{token_at, code, from}
+use Rattle.grammar.specs.Reading.{next_token, after_next}
+
+-- the number of a tag
+abbrev pub code : Tag → ℕ
+code = tag_of the_type
 
 all_tags : List Tag
 all_tags =
     Name ∷ Number ∷ OpenParen ∷ CloseParen ∷ OpenBrace ∷ CloseBrace ∷ Comma ∷ Semicolon ∷ Ampersand ∷ Assign ∷ Plus ∷ Minus ∷ Star ∷ Less ∷ Equals ∷ Var ∷ Next ∷ Know ∷ Take ∷ If ∷ Else ∷ While ∷ Par ∷ Try ∷ Catch ∷ Throw ∷ Proc ∷ Main ∷ End ∷ []
 
-tag_of : (t : Tag) → (code t < 29) × (get_or all_tags (code t) End ≡ t)
+listed : (t : Tag) → (code t < 29) × (get_or all_tags (code t) End ≡ t)
 unfolding all_tags
-tag_of Name = (omega arith, refl)
-tag_of Number = (omega arith, refl)
-tag_of OpenParen = (omega arith, refl)
-tag_of CloseParen = (omega arith, refl)
-tag_of OpenBrace = (omega arith, refl)
-tag_of CloseBrace = (omega arith, refl)
-tag_of Comma = (omega arith, refl)
-tag_of Semicolon = (omega arith, refl)
-tag_of Ampersand = (omega arith, refl)
-tag_of Assign = (omega arith, refl)
-tag_of Plus = (omega arith, refl)
-tag_of Minus = (omega arith, refl)
-tag_of Star = (omega arith, refl)
-tag_of Less = (omega arith, refl)
-tag_of Equals = (omega arith, refl)
-tag_of Var = (omega arith, refl)
-tag_of Next = (omega arith, refl)
-tag_of Know = (omega arith, refl)
-tag_of Take = (omega arith, refl)
-tag_of If = (omega arith, refl)
-tag_of Else = (omega arith, refl)
-tag_of While = (omega arith, refl)
-tag_of Par = (omega arith, refl)
-tag_of Try = (omega arith, refl)
-tag_of Catch = (omega arith, refl)
-tag_of Throw = (omega arith, refl)
-tag_of Proc = (omega arith, refl)
-tag_of Main = (omega arith, refl)
-tag_of End = (omega arith, refl)
+listed Name = (omega arith, refl)
+listed Number = (omega arith, refl)
+listed OpenParen = (omega arith, refl)
+listed CloseParen = (omega arith, refl)
+listed OpenBrace = (omega arith, refl)
+listed CloseBrace = (omega arith, refl)
+listed Comma = (omega arith, refl)
+listed Semicolon = (omega arith, refl)
+listed Ampersand = (omega arith, refl)
+listed Assign = (omega arith, refl)
+listed Plus = (omega arith, refl)
+listed Minus = (omega arith, refl)
+listed Star = (omega arith, refl)
+listed Less = (omega arith, refl)
+listed Equals = (omega arith, refl)
+listed Var = (omega arith, refl)
+listed Next = (omega arith, refl)
+listed Know = (omega arith, refl)
+listed Take = (omega arith, refl)
+listed If = (omega arith, refl)
+listed Else = (omega arith, refl)
+listed While = (omega arith, refl)
+listed Par = (omega arith, refl)
+listed Try = (omega arith, refl)
+listed Catch = (omega arith, refl)
+listed Throw = (omega arith, refl)
+listed Proc = (omega arith, refl)
+listed Main = (omega arith, refl)
+listed End = (omega arith, refl)
 
 pub tag_is : (t u : Tag) → code t ≡ code u → t ≡ u
-tag_is t u e = sym (tag_of t).1 ∙ ap (λ n. get_or all_tags n End) e ∙ (tag_of u).1
+tag_is t u e = tag_one the_type tt t u e
 
 abbrev all_below : ℕ → (ℕ → Bool) → Bool
 all_below zero P = true
@@ -96,7 +102,7 @@ Everywhere P = T (all_below 29 (λ i. P (get_or all_tags i End)))
 
 by_table : (P : Tag → Bool) → Everywhere P → (t : Tag) → T (P t)
 by_table P h t =
-    let e = tag_of t in subst (λ (u : Tag). T (P u)) e.1 (below 29 (λ i. P (get_or all_tags i End)) h (code t) e.0)
+    let e = listed t in subst (λ (u : Tag). T (P u)) e.1 (below 29 (λ i. P (get_or all_tags i End)) h (code t) e.0)
 
 abbrev agree : Bool → Bool → Bool
 agree true b = b
@@ -171,64 +177,59 @@ sign_tag w t u f =
 end_apart : (t : Tag) → class_of t ≡ fixed → eqb 28 (code t) ≡ false
 end_apart t f = sym (sign_tag [] t End f)
 
--- ---- the tokens from an index on
+-- ---- the next token
+
+-- whether it has a tag
+abbrev pub test : List Token → Tag → Bool
+test ts t = eqb (code (next_token ts).tag) (code t)
+
+pub seen : (ts : List Token) (t : Tag) → (next_token ts).tag ≡ t → test ts t ≡ true
+seen ts t h = eq-eqb (code (next_token ts).tag) (code t) (ap code h)
+
+pub unseen : (ts : List Token) (t : Tag) → ((next_token ts).tag ≡ t → ⊥) → test ts t ≡ false
+unseen ts t n = ne_eqb (code (next_token ts).tag) (code t) (λ q. n (tag_is (next_token ts).tag t q))
+
+-- a token that was looked at
+pub is_next : {w x : Token} {t : Tag} → w ≡ x → w.tag ≡ t → x.tag ≡ t
+is_next e h = ap (λ (x : Token). x.tag) (sym e) ∙ h
+
+pub is_not_next : {w x : Token} {t : Tag} → w ≡ x → (w.tag ≡ t → ⊥) → x.tag ≡ t → ⊥
+is_not_next e n h = n (ap (λ (x : Token). x.tag) e ∙ h)
+
+pub not_seen : {P : Type 0} {b : Bool} → Decides b P → b ≡ false → P → ⊥
+not_seen {b = b} d e p = both_ways b e (d.1 p)
+
+-- a token other than the end is left
+pub left : (ts : List Token) (t : Tag) → (next_token ts).tag ≡ t → eqb 28 (code t) ≡ false → length (after_next ts) < length ts
+left [] t h e = absurd (both_ways (eqb 28 (code t)) e (eq-eqb 28 (code t) (ap code h)))
+left (x ∷ ts) t h e = omega arith
+
+pub sign_left : (ts : List Token) (t : Tag) → class_of t ≡ fixed → (next_token ts).tag ≡ t → length (after_next ts) < length ts
+sign_left ts t f h = left ts t h (end_apart t f)
 
 module _ (text : List ℕ) where
   pub lexemes_length : (ts : List Token) → length (lexemes text ts) ≡ length ts
   lexemes_length [] = refl
   lexemes_length (t ∷ ts) = ap suc (lexemes_length ts)
 
-  from_cons : (ts : List Token) (at : ℕ) → at < length ts → from text ts at ≡ lexeme_of text (token_at ts at) ∷ from text ts (suc at)
-  from_cons [] at l = absurd (omega arith)
-  from_cons (t ∷ ts) zero l = refl
-  from_cons (t ∷ ts) (suc at) l = from_cons ts at (omega arith)
+  pub here_from : (ts : List Token) → here (lexemes text ts) ≡ lexeme_of text (next_token ts)
+  here_from [] = refl
+  here_from (t ∷ ts) = refl
 
-  pub from_more : (ts : List Token) (at : ℕ) → at < length ts → from text ts at ≡ lexeme_of text (token_at ts at) ∷ from text ts (at + 1)
-  from_more ts at l = from_cons ts at l ∙ ap (λ (n : ℕ). lexeme_of text (token_at ts at) ∷ from text ts n) (sym (add-one at))
+  pub rest_from : (ts : List Token) → rest (lexemes text ts) ≡ lexemes text (after_next ts)
+  rest_from [] = refl
+  rest_from (t ∷ ts) = refl
 
-  pub from_past : (ts : List Token) (at : ℕ) → length ts ≤ at → from text ts at ≡ []
-  from_past ts at l = let e = lexemes_length ts in drop_all at (lexemes text ts) (omega arith)
+  pub is_from : (t : Tag) → class_of t ≡ fixed → (ts : List Token) → is (spelled [] t) (lexemes text ts) ≡ test ts t
+  is_from t f ts =
+      ap (λ (l : Lexeme). is_fixed l.class && same (spelled [] t) l.text) (here_from ts)
+      ∙ sign_tag (part text (next_token ts).at (next_token ts).len) t (next_token ts).tag f
 
-  pub here_from : (ts : List Token) (at : ℕ) → here (from text ts at) ≡ lexeme_of text (token_at ts at)
-  here_from ts at =
-      elim (cases_lt at (length ts)) [
-        | inl l ↦ ap here (from_more ts at l)
-        | inr l ↦ ap here (from_past ts at l) ∙ ap (λ (t : Token). lexeme_of text t) (sym (get_or_past ts at (record { tag = End; at = 0; len = 0 }) l))
-      ]
+  pub name_from : (ts : List Token) → is_name (here (lexemes text ts)).class ≡ test ts Name
+  name_from ts = ap (λ (l : Lexeme). is_name l.class) (here_from ts) ∙ name_tag (next_token ts).tag
 
-  pub rest_from : (ts : List Token) (at : ℕ) → at < length ts → rest (from text ts at) ≡ from text ts (at + 1)
-  rest_from ts at l = ap rest (from_more ts at l)
+  pub number_from : (ts : List Token) → is_number (here (lexemes text ts)).class ≡ test ts Number
+  number_from ts = ap (λ (l : Lexeme). is_number l.class) (here_from ts) ∙ number_tag (next_token ts).tag
 
-  pub is_from : (t : Tag) → class_of t ≡ fixed → (ts : List Token) (at : ℕ) → is (spelled [] t) (from text ts at) ≡ eqb (code (token_at ts at).tag) (code t)
-  is_from t f ts at =
-      ap (λ (l : Lexeme). is_fixed l.class && same (spelled [] t) l.text) (here_from ts at)
-      ∙ sign_tag (part text (token_at ts at).at (token_at ts at).len) t (token_at ts at).tag f
-
-  pub name_from : (ts : List Token) (at : ℕ) → is_name (here (from text ts at)).class ≡ eqb (code (token_at ts at).tag) 0
-  name_from ts at = ap (λ (l : Lexeme). is_name l.class) (here_from ts at) ∙ name_tag (token_at ts at).tag
-
-  pub number_from : (ts : List Token) (at : ℕ) → is_number (here (from text ts at)).class ≡ eqb (code (token_at ts at).tag) 1
-  number_from ts at = ap (λ (l : Lexeme). is_number l.class) (here_from ts at) ∙ number_tag (token_at ts at).tag
-
-  pub finish_from : (ts : List Token) (at : ℕ) → is_finish (here (from text ts at)).class ≡ eqb (code (token_at ts at).tag) 28
-  finish_from ts at = ap (λ (l : Lexeme). is_finish l.class) (here_from ts at) ∙ finish_tag (token_at ts at).tag
-
--- a token other than the end stands before the last index
-pub within : (ts : List Token) (at c : ℕ) → eqb (code (token_at ts at).tag) c ≡ true → eqb 28 c ≡ false → at < length ts
-within ts at c h e =
-    elim (cases_lt at (length ts)) [
-      | inl l ↦ l
-      | inr l ↦
-          let p : eqb (code (token_at ts at).tag) c ≡ eqb 28 c = ap (λ (t : Token). eqb (code t.tag) c) (get_or_past ts at (record { tag = End; at = 0; len = 0 }) l) in
-          absurd (both_ways (eqb 28 c) e (sym p ∙ h))
-    ]
-
-pub sign_within : (ts : List Token) (at : ℕ) (t : Tag) → class_of t ≡ fixed → eqb (code (token_at ts at).tag) (code t) ≡ true → at < length ts
-sign_within ts at t f h = within ts at (code t) h (end_apart t f)
-
--- a tag that was read, as a test
-pub seen : (ts : List Token) (at : ℕ) (w : Token) (t : Tag) → w ≡ token_at ts at → w.tag ≡ t → eqb (code (token_at ts at).tag) (code t) ≡ true
-seen ts at w t e h = eq-eqb (code (token_at ts at).tag) (code t) (ap (λ (x : Token). code x.tag) (sym e) ∙ ap code h)
-
-pub unseen : (ts : List Token) (at : ℕ) (w : Token) (t : Tag) → w ≡ token_at ts at → (w.tag ≡ t → ⊥) → eqb (code (token_at ts at).tag) (code t) ≡ false
-unseen ts at w t e n = ne_eqb (code (token_at ts at).tag) (code t) (λ q. n (ap (λ (x : Token). x.tag) e ∙ tag_is (token_at ts at).tag t q))
+  pub finish_from : (ts : List Token) → is_finish (here (lexemes text ts)).class ≡ test ts End
+  finish_from ts = ap (λ (l : Lexeme). is_finish l.class) (here_from ts) ∙ finish_tag (next_token ts).tag

@@ -3,9 +3,9 @@ use Rattle.std.specs.Prelude.{ℕ, zero, suc, cond, List, Ok, codes, ◌==◌}
 use Rattle.reader.specs.declared.fault.Cause.TheVariants.{TooDeep}
 use Rattle.reader.specs.Faults.{Answer, ◌>>=◌, refuse}
 use Rattle.reader.specs.declared.token.Tag.{Tag}
-use Rattle.grammar.specs.Trees.{Name, Exp, Simple, Var, Next, Know, Throw, Stm, Block, Blocks, Param, Proc}
-use Rattle.grammar.specs.Reading.{code}
-use Rattle.grammar.specs.Parsers.{Tokens, Parser, here, eat, a_name}
+use Rattle.reader.specs.declared.token.Tag.TheVariants as tags
+use Rattle.grammar.specs.Trees.{Name, Exp, Stm, Block, Blocks, Param, Proc}
+use Rattle.grammar.specs.Parsers.{Tokens, Parser, here, eat, a_name, a_number}
 use Rattle.grammar.specs.Parsing.{
   Signs,
   products,
@@ -18,7 +18,6 @@ use Rattle.grammar.specs.Parsing.{
   an_expression,
   in_parens,
   arguments,
-  of_name,
   more_blocks,
   a_par,
   an_if,
@@ -43,6 +42,11 @@ use Rattle.grammar.specs.Parsing.{
 unfoldable pub opened : ℕ → List ℕ → Tokens → Answer Tokens
 opened zero s ts = eat s ts >>= (λ r. refuse TooDeep (here ts).at)
 opened (suc room) s ts = eat s ts
+
+-- a name or a number, as a tag says
+abbrev pub word_at : Tag → Parser Name
+word_at tags.Number = a_number
+word_at t = a_name
 
 -- a name and `;`
 unfoldable pub ended_name : Parser Name
@@ -83,14 +87,6 @@ call_at room v = a_call room v
 
 unfoldable pub named_at : ℕ → Name → Parser Stm
 named_at room v = named room v
-
--- a statement that is a word, a name and `;`
-unfoldable pub short_at : ℕ → (Name → Simple) → Parser Stm
-short_at at f = of_name at f
-
--- the statement of such a word
-abbrev pub simple_of : Tag → Name → Simple
-simple_of t v = cond (code t == 16) (Next v) (cond (code t == 17) (Know v) (cond (code t == 25) (Throw v) (Var v)))
 
 unfoldable pub block_at : ℕ → Parser Block
 block_at room = block room

@@ -2,7 +2,7 @@
 #![tactic(auto)]
 
 mod expressions;
-mod look;
+mod parser;
 pub mod programs;
 mod simples;
 mod statements;

@@ -25,7 +25,7 @@ fn accepted(heap: Global, tokens: &[Token]) -> bool {
 
 fn refused(heap: Global, tokens: &[Token], cause: Cause, offset: usize) -> bool {
     match parse(heap, tokens) {
-        Err(Error::Refused(fault)) => fault.cause as u8 == cause as u8 && fault.offset == offset,
+        Err(Error::Refused(fault)) => fault == cause.at(offset),
         _ => false,
     }
 }

@@ -47,6 +47,8 @@ pub enum Head {
     Take(Name, Name),
 }
 
+// Statements and the lists of them. A list is a chain of boxes and no `Vec`: with a `Vec<Stmt>` in a statement no definition
+// can match on a statement, and the grammar, names and unfolding are defined by an equation for each statement.
 // The second block is the else block of an if and the catch block of a try, and otherwise empty.
 #[cycle(stmt)]
 #[derive(Drop)]

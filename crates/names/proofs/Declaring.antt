@@ -1,25 +1,22 @@
 -- What a statement declares, in the table and in the scope.
-use Rattle.std.proofs.Common.{◌≡◌, ℕ, List, [], ◌++◌, length, take, Ok, Err, Result, sym, refl, ap, ◌∙◌, subst, append-nil}
+use Rattle.std.proofs.Common.{◌≡◌, ℕ, List, [], ◌++◌, length, take, Ok, Err, Result, vec_items, sym, refl, ap, ◌∙◌, subst, append-nil}
 use Rattle.std.proofs.lemmas.List.{take_at}
 use Rattle.reader.specs.declared.fault.Error.{Error}
 use Rattle.reader.specs.declared.fault.Error.TheVariants.{Refused, OutOfMemory}
 use Rattle.reader.specs.Faults.{Answer, Meets, ◌>>=◌}
 use Rattle.grammar.specs.declared.tree.Name as code-name
-use Rattle.grammar.specs.declared.tree.Simple as code-simple
 use Rattle.grammar.specs.declared.tree.Simple.TheVariants as simples
 use Rattle.grammar.specs.declared.tree.Stmt as code-stmt
 use Rattle.grammar.specs.declared.tree.Block as code-block
+use Rattle.grammar.specs.declared.tree.Proc as code-proc
 use Rattle.grammar.specs.declared.tree.Block.TheVariants as stmts
-use Rattle.grammar.specs.Trees.{Proc}
 use Rattle.grammar.specs.Views.{stm, block}
-use Rattle.names.specs.Naming.{Reading, Scope, declared, names_stm, names_block}
-use Rattle.names.specs.Scopes.{scope, declares}
+use Rattle.names.specs.Naming.{Reading, declared, names_stm, names_block}
+use Rattle.names.specs.Scopes.{scope, ended, declares}
+use Rattle.names.specs.Checking.{vars_of, procs_of, SeesSame, Checks}
+use Rattle.names.specs.declared.checker.Checker.{Checker}
+use Rattle.names.proofs.Binds.{bind_ok}
 use Rattle.names.proofs.Stacks.{stacked_push}
-
-pub not_one : (s : code-stmt.Stmt) → ((at : ℕ) (x : code-simple.Simple) → s ≡ stmts.One at x → ⊥) → declares s ≡ []
-not_one (stmts.One at x) h = absurd (h at x refl)
-not_one (stmts.Two' at h' p a q b) h = refl
-not_one (stmts.Par' at p bs) h = refl
 
 pub declared_scope : (text : List ℕ) (ns : List code-name.Name) (s : code-stmt.Stmt) → scope text (ns ++ declares s) ≡ declared (scope text ns) (stm text s)
 declared_scope text ns (stmts.One at (simples.Var n)) = stacked_push text [] ns n
@@ -41,26 +38,33 @@ met_err P Q (Refused f) (Ok a) h = absurd h
 met_err P Q (Refused f) (Err i) h = h
 met_err P Q OutOfMemory r h = tt
 
--- the rest of a block, after a statement that is in order
-pub rest_of : (l : Reading) (ps : List Proc) (text : List ℕ) (ns ms : List code-name.Name) (s : code-stmt.Stmt) (b : code-block.Block)
-    → names_stm l ps (scope text ns) (stm text s) ≡ Ok tt → ms ≡ ns ++ declares s
-    → (names_stm l ps (scope text ns) (stm text s) >>= (λ u. names_block l ps (declared (scope text ns) (stm text s)) (block text b))) ≡ names_block l ps (scope text ms) (block text b)
-rest_of l ps text ns ms s b e d =
-    ap (λ (r : Answer (Unit {0})). r >>= (λ u. names_block l ps (declared (scope text ns) (stm text s)) (block text b))) e
-    ∙ ap (λ (v : Scope). names_block l ps v (block text b)) (sym (ap (scope text) d ∙ declared_scope text ns s))
+-- the rest of a block, after a statement that is in order and what it declares
+rest_is : (l : Reading) (text text' : List ℕ) (qs qs' : List code-proc.Proc) (ns ms : List code-name.Name) (s : code-stmt.Stmt) (b : code-block.Block)
+    → Ok tt ≡ names_stm l (ended text qs) (scope text ns) (stm text s) → text' ≡ text → qs' ≡ qs → ms ≡ ns ++ declares s
+    → names_block l (ended text' qs') (scope text' ms) (block text' b)
+    ≡ (names_stm l (ended text qs) (scope text ns) (stm text s) >>= (λ u. names_block l (ended text qs) (declared (scope text ns) (stm text s)) (block text b)))
+rest_is l text text' qs qs' ns ms s b e t q d =
+    let h = bind_ok tt (λ (u : Unit {0}). names_block l (ended text qs) (declared (scope text ns) (stm text s)) (block text b)) e in
+    let k = declared_scope text ns s in
+    cc
 
--- The same of the code's tables: ns before the statement, ns' after its check, ms after its declaration.
+-- The rest of a block, after a statement that is in order and what it declares: c before the statement, d after it, ms with what it declares.
 -- The statement and the rest of the block stand in boxes, which the code reads one by one.
-pub seq_is : (l : Reading) (ps : List Proc) (text : List ℕ) (ns ns' ms : List code-name.Name) (whole : code-block.Block) (s s' s'' : code-stmt.Stmt) (b b' : code-block.Block)
-    → names_block l ps (scope text ns) (block text whole)
-    ≡ (names_stm l ps (scope text ns) (stm text s) >>= (λ u. names_block l ps (declared (scope text ns) (stm text s)) (block text b)))
-    → s' ≡ s → s'' ≡ s → b' ≡ b → Meets (λ (u w : Unit {0}). ns' ≡ ns) (Ok tt) (names_stm l ps (scope text ns) (stm text s')) → ms ≡ ns' ++ declares s''
-    → (names_block l ps (scope text ms) (block text b') ≡ names_block l ps (scope text ns) (block text whole)) × (ns' ≡ ns) × (ms ≡ ns ++ declares s)
-seq_is l ps text ns ns' ms whole s s' s'' b b' e i j k h m =
-    let o = met_ok (λ (u w : Unit {0}). ns' ≡ ns) tt (names_stm l ps (scope text ns) (stm text s')) h in
-    let n : names_stm l ps (scope text ns) (stm text s) ≡ Ok tt = sym (ap (λ (x : code-stmt.Stmt). names_stm l ps (scope text ns) (stm text x)) i) ∙ o.1 in
-    let d : ms ≡ ns ++ declares s = m ∙ ap (λ (xs : List code-name.Name). xs ++ declares s'') o.2 ∙ ap (λ (x : code-stmt.Stmt). ns ++ declares x) j in
-    (ap (λ (x : code-block.Block). names_block l ps (scope text ms) (block text x)) k ∙ sym (rest_of l ps text ns ms s b n d) ∙ sym e, o.2, d)
+pub seq_is : {K : Type 0} (l : Reading) (c d : Checker K) (ms : List code-name.Name) (whole : code-block.Block) (s s' s'' : code-stmt.Stmt) (b b' : code-block.Block)
+    → names_block l (procs_of c) (vars_of c) (block c.text.now whole)
+    ≡ (names_stm l (procs_of c) (vars_of c) (stm c.text.now s) >>= (λ u. names_block l (procs_of c) (declared (vars_of c) (stm c.text.now s)) (block c.text.now b)))
+    → s' ≡ s → s'' ≡ s → b' ≡ b → Checks c d (Ok tt) (names_stm l (procs_of c) (vars_of c) (stm c.text.now s')) → ms ≡ vec_items d.vars ++ declares s''
+    → (names_block l (procs_of d) (scope d.text.now ms) (block d.text.now b') ≡ names_block l (procs_of c) (vars_of c) (block c.text.now whole))
+    × SeesSame c d × (ms ≡ vec_items c.vars ++ declares s)
+seq_is {K} l c d ms whole s s' s'' b b' e i j k h m =
+    let o = met_ok (λ (u w : Unit {0}). SeesSame c d) tt (names_stm l (procs_of c) (vars_of c) (stm c.text.now s')) h in
+    let n = sym (sym (ap (λ (x : code-stmt.Stmt). names_stm l (procs_of c) (vars_of c) (stm c.text.now x)) i) ∙ o.1) in
+    let m' : ms ≡ vec_items c.vars ++ declares s = m ∙ ap (λ (xs : List code-name.Name). xs ++ declares s'') o.2.2 ∙ ap (λ (x : code-stmt.Stmt). vec_items c.vars ++ declares x) j in (
+      ap (λ (x : code-block.Block). names_block l (procs_of d) (scope d.text.now ms) (block d.text.now x)) k
+          ∙ rest_is l c.text.now d.text.now c.procs.now d.procs.now (vec_items c.vars) ms s b n o.2.0 o.2.1 m' ∙ sym e,
+      o.2,
+      m',
+    )
 
 -- at the end of the block the table is cut to what it was
 pub cut : {A : Type 0} (ns ns' ms ms' xs ds : List A) (n : ℕ) → ns' ≡ ns → ms ≡ ns ++ ds → ms' ≡ ms → n ≡ length ns' → xs ≡ take n ms' → xs ≡ ns

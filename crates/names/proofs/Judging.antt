@@ -1,5 +1,6 @@
 -- The tests of the sites tell what the rules ask, and the walk finds the first site that is wrong.
-use Rattle.std.proofs.Common.{◌≡◌, ℕ, ◌≤◌, Bool, true, false, not, ◌||◌, leb, ◌⊎◌, List, [], ◌∷◌, length, is_some, Some, None, Ok, Err, Decides, Option, Result, sym, refl, ap, ◌∙◌, subst, inl, inr, arith, eq-eqb, eqb-true, le-leb, leb-true}
+use Rattle.std.proofs.Common.{◌≡◌, ℕ, ◌≤◌, Bool, true, false, not, leb, ◌⊎◌, List, [], ◌∷◌, length, is_some, Some, None, Ok, Err, Decides, Option, Result, sym, refl, ap, ◌∙◌, subst, inl, inr, arith, eq-eqb, eqb-true, le-leb, leb-true}
+use Rattle.std.proofs.lemmas.Bool.Decides.{Decides-not, Decides-or}
 use Rattle.reader.specs.declared.fault.Fault.{Fault}
 use Rattle.reader.specs.declared.fault.Error.{Error}
 use Rattle.reader.specs.declared.fault.Error.TheVariants.{Refused, OutOfMemory}
@@ -31,21 +32,13 @@ use Rattle.grammar.proofs.Spelling.{same_decides}
 use Rattle.names.proofs.Checked.{fits, test, checked, named_is}
 
 clash : {A : Type 0} → true ≡ false → A
-clash e = absurd (let z : ◌≡◌ {A = ℕ} 0 1 = cc in omega arith)
+clash e = absurd cc
 
 -- ---- tests and facts
 
-or_tells : {P Q : Type 0} (a b : Bool) → Decides a P → Decides b Q → Decides (a || b) (P ⊎ Q)
-or_tells true b h k = (λ e. inl (h.0 refl), λ x. refl)
-or_tells false b h k = (λ e. inr (k.0 e), λ x. elim x [ inl p ↦ clash (sym (h.1 p)) | inr q ↦ k.1 q ])
-
-not_tells : {P : Type 0} (a : Bool) → Decides a P → Decides (not a) (P → ⊥)
-not_tells true h = (λ e. clash (sym e), λ f. absurd (f (h.0 refl)))
-not_tells false h = (λ e p. clash (sym (h.1 p)), λ f. refl)
-
 among_tells : (w : List ℕ) (v : Scope) → Decides (among w v) (Among w v)
 among_tells w [] = (λ e. clash (sym e), λ x. absurd x)
-among_tells w (x ∷ v) = or_tells (same w x) (among w v) (same_decides w x) (among_tells w v)
+among_tells w (x ∷ v) = Decides-or (same w x) (among w v) (same_decides w x) (among_tells w v)
 
 some_tells : {A : Type 0} (o : Option A) → Decides (is_some o) ((a : A) × (o ≡ Some a))
 some_tells None = (λ e. clash (sym e), λ x. clash (let z : true ≡ false = cc x.1 in z))
@@ -65,7 +58,7 @@ port_tells (Some k) = (λ e. (k, refl, leb-true k 7 e), λ x. le-leb k 7 (let i 
 
 pub tells : (l : Reading) (s : Site) → Decides (test l s) (Right l s)
 tells l (uses v n) = among_tells n.text v
-tells l (declares v n) = not_tells (among n.text v) (among_tells n.text v)
+tells l (declares v n) = Decides-not (among n.text v) (among_tells n.text v)
 tells l (calls ps n) = some_tells (find_proc ps n.text)
 tells l (gives ps n k) = fits_tells k (find_proc ps n.text)
 tells l (defines ps n) = none_tells (find_proc ps n.text)
@@ -106,7 +99,7 @@ split l (s ∷ ss) =
     ] refl
 
 ok_err : {A B : Type 0} {a : A} {f : Fault} {r : Answer A} → r ≡ Ok a → r ≡ Err f → B
-ok_err e i = absurd (let z : ◌≡◌ {A = ℕ} 0 1 = cc in omega arith)
+ok_err e i = absurd cc
 
 named_ok : (l : Reading) (t : Tree) → AllRight l (sites t) → named l t ≡ Ok (with_procs [] t.procs)
 named_ok l t h = named_is l t ∙ ap (λ (z : Answer (Unit {0})). z >>= (λ u. Ok (with_procs [] t.procs))) (right_passes l (sites t) h)

@@ -1,5 +1,6 @@
 pub mod Binds
 pub mod Stacks
+pub mod Places
 pub mod Finding
 pub mod Declaring
 pub mod Tables

@@ -1,24 +1,35 @@
 -- Loops over the parameters of a procedure and over the procedures.
-use Rattle.std.proofs.Common.{◌≡◌, ℕ, ◌+◌, ◌<◌, ◌≤◌, List, [], ◌∷◌, ◌++◌, length, get_or, take, drop, Ok, Err, Result, sym, ap, ◌∙◌}
-use Rattle.std.proofs.lemmas.List.{take_more, take_all, at_drop_more, at_drop_all}
+use Rattle.std.proofs.Common.{◌≡◌, ℕ, ◌+◌, ◌<◌, List, [], ◌∷◌, ◌++◌, length, get_or, take, drop, Ok, Err, sym, ap, ◌∙◌}
+use Rattle.std.proofs.lemmas.List.{take_more, at_drop_more}
 use Rattle.reader.specs.declared.fault.Error.{Error}
 use Rattle.reader.specs.declared.fault.Error.TheVariants.{Refused, OutOfMemory}
 use Rattle.reader.specs.Faults.{Answer, Meets, ◌>>=◌}
+use Rattle.grammar.specs.declared.tree.Name as code-name
 use Rattle.grammar.specs.declared.tree.Param as code-param
 use Rattle.grammar.specs.declared.tree.Proc as code-proc
 use Rattle.grammar.specs.Trees.{Proc}
 use Rattle.grammar.specs.Views.{name, params, proc, procs}
 use Rattle.names.specs.Naming.{Reading, Scope, undeclared, names_params, names_proc, names_procs}
-use Rattle.names.specs.Scopes.{ended}
+use Rattle.names.specs.Scopes.{scope, ended}
+use Rattle.names.proofs.Binds.{bind_ok}
 use Rattle.names.proofs.Finding.{after_push}
+use Rattle.names.proofs.Stacks.{stacked_push}
 
-pub params_more : (text : List ℕ) (v : Scope) (ps : List code-param.Param) (i : ℕ) (d : code-param.Param) → i < length ps
+params_more : (text : List ℕ) (v : Scope) (ps : List code-param.Param) (i : ℕ) (d : code-param.Param) → i < length ps
     → names_params v (params text (drop i ps))
     ≡ (undeclared v (name text (get_or ps i d).name) >>= (λ u. names_params ((name text (get_or ps i d).name).text ∷ v) (params text (drop (i + 1) ps))))
 params_more text v ps i d h = at_drop_more (λ (qs : List code-param.Param). names_params v (params text qs)) ps i d h
 
-pub params_end : (text : List ℕ) (v : Scope) (ps : List code-param.Param) (i : ℕ) → length ps ≤ i → names_params v (params text (drop i ps)) ≡ Ok v
-params_end text v ps i h = at_drop_all (λ (qs : List code-param.Param). names_params v (params text qs)) ps i h
+-- one parameter more, which was not visible
+pub params_next : (text text' : List ℕ) (ns ms : List code-name.Name) (ps : List code-param.Param) (i : ℕ) (d : code-param.Param) → text' ≡ text → i < length ps
+    → Ok tt ≡ undeclared (scope text' ns) (name text' (get_or ps i d).name) → ms ≡ ns ++ ((get_or ps i d).name ∷ [])
+    → names_params (scope text' ns) (params text (drop i ps)) ≡ names_params (scope text' ms) (params text (drop (i + 1) ps))
+params_next text text' ns ms ps i d t h e k =
+    let n = (get_or ps i d).name in
+    params_more text (scope text' ns) ps i d h
+    ∙ bind_ok tt (λ (u : Unit {0}). names_params ((name text n).text ∷ scope text' ns) (params text (drop (i + 1) ps))) (e ∙ ap (λ (x : List ℕ). undeclared (scope text' ns) (name x n)) t)
+    ∙ ap (λ (x : List ℕ). names_params ((name x n).text ∷ scope text' ns) (params text (drop (i + 1) ps))) (sym t)
+    ∙ ap (λ (v : Scope). names_params v (params text (drop (i + 1) ps))) (sym (ap (scope text') k ∙ stacked_push text' [] ns n))
 
 pub procs_more : (l : Reading) (text : List ℕ) (qs : List code-proc.Proc) (i : ℕ) (q : code-proc.Proc) → i < length qs → q ≡ get_or qs i q
     → names_procs l (ended text (take i qs)) (procs text (drop i qs))
@@ -28,20 +39,6 @@ procs_more l text qs i q h e =
     ∙ ap (λ (r : code-proc.Proc). names_proc l (ended text (take i qs)) (proc text r) >>= (λ u. names_procs l (proc text r ∷ ended text (take i qs)) (procs text (drop (i + 1) qs)))) (sym e)
     ∙ ap (λ (ps : List Proc). names_proc l (ended text (take i qs)) (proc text q) >>= (λ u. names_procs l ps (procs text (drop (i + 1) qs))))
     (sym (ap (ended text) (take_more qs i q h ∙ ap (λ (r : code-proc.Proc). take i qs ++ (r ∷ [])) (sym e)) ∙ after_push text [] (take i qs) q))
-
-pub procs_end : (l : Reading) (text : List ℕ) (qs : List code-proc.Proc) (i : ℕ) → length qs ≤ i
-    → names_procs l (ended text (take i qs)) (procs text (drop i qs)) ≡ Ok (ended text qs)
-procs_end l text qs i h =
-    at_drop_all (λ (rs : List code-proc.Proc). names_procs l (ended text (take i qs)) (procs text rs)) qs i h
-    ∙ ap (λ (rs : List code-proc.Proc). Ok (ended text rs)) (take_all i qs h)
-
--- what is not asked is not lost
-pub met_then : {V A B : Type 0} (P : V → A → Type 0) (x : Result V Error) (r : Answer A) (b : B) → Meets P x r → Meets (λ (v : V) (c : B). Unit {0}) x (r >>= (λ u. Ok b))
-met_then P (Ok v) (Ok a) b h = tt
-met_then P (Ok v) (Err f) b h = h
-met_then P (Err (Refused g)) (Ok a) b h = h
-met_then P (Err (Refused g)) (Err f) b h = h
-met_then P (Err OutOfMemory) r b h = tt
 
 -- a fault ends what follows
 pub met_stop : {V W A B : Type 0} (P : V → A → Type 0) (Q : W → B → Type 0) (e : Error) (r : Answer A) (f : A → Answer B) → Meets P (Err e) r → Meets Q (Err e) (r >>= f)

@@ -1,7 +1,8 @@
 -- What the code's tables of visible names stand for.
-use Rattle.std.specs.Prelude.{◌≡◌, ℕ, List, [], ◌∷◌, ◌++◌, length, Some, None, Ok, Err, Option, Result}
+use Rattle.std.specs.Prelude.{◌≡◌, ℕ, true, false, List, [], ◌∷◌, ◌++◌, length, Some, None, Ok, Err, Option, Result}
 use Rattle.reader.specs.declared.fault.Error.{Error}
 use Rattle.reader.specs.declared.fault.Error.TheVariants.{OutOfMemory}
+use Rattle.reader.specs.Tokens.{same}
 use Rattle.grammar.specs.declared.tree.Name as code-name
 use Rattle.grammar.specs.declared.tree.Simple.TheVariants as simples
 use Rattle.grammar.specs.declared.tree.Stmt as code-stmt
@@ -26,6 +27,11 @@ after text ps (q ∷ qs) = after text (proc text q ∷ ps) qs
 
 abbrev pub ended : List ℕ → List code-proc.Proc → List Proc
 ended text qs = after text [] qs
+
+-- where the visible procedure of a name stands in a table, if there is one
+abbrev pub place : List ℕ → List Proc → Option ℕ
+place w [] = None
+place w (p ∷ ps) = elim (same w p.name.text) [ true ↦ Some (length ps) | false ↦ place w ps ]
 
 -- how many parameters a procedure has
 abbrev pub arity : Option Proc → Option ℕ

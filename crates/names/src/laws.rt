@@ -2,15 +2,11 @@
 ghost use Rattle.names.specs.Laws.{PassesWhenRight, RefusesFirstWrong};
 
 // A text passes exactly where every name, call, literal and port of it is right.
-pub fn names_pass_when_right() -> u8
+pub fn names_pass_when_right()
     ensures { PassesWhenRight }
-{
-    0
-}
+{}
 
 // A text is refused exactly for the first that is wrong, in the order of the text.
-pub fn names_refuse_first_wrong() -> u8
+pub fn names_refuse_first_wrong()
     ensures { RefusesFirstWrong }
-{
-    0
-}
+{}

@@ -1,13 +1,12 @@
 // The third stage of clearing: names, arguments, literals and ports.
 #![tactic(auto)]
 
+mod checker;
 mod exprs;
 pub mod laws;
 mod literals;
-mod part;
-mod procs;
 mod stmts;
-mod vars;
+pub mod visible;
 mod whole;
 
 pub use crate::whole::check_names;

@@ -1,28 +1,23 @@
 -- Decimal writing, read back.
-use Rattle.std.proofs.Common.{◌≡◌, ℕ, ◌-◌, ◌^◌, ◌<◌, true, ltb, List, Some, None, decimal, refl, ap, ◌∙◌, arith, w32, rules}
+use Rattle.std.proofs.Common.{◌≡◌, ℕ, ◌-◌, ◌^◌, ◌<◌, ltb, List, Some, None, decimal, refl, ap, ◌∙◌, arith, w32}
 use Rattle.std.proofs.lemmas.Fmt.{digits_decimal, digits_value-decimal, decimal_nonempty, first_decimal, length-decimal-le}
-use Rattle.std.proofs.lemmas.Str.Parse.{IsNumeralModel, numerals_by_fold}
 use Rattle.std.proofs.lemmas.Int.{to_z_pos}
 use Rattle.std.proofs.lemmas.Bool.{cond-true, lt-ltb}
 use Rattle.std.specs.Fmt.{signed_decimal}
 use Rattle.numbers.specs.Kinds.{Meaning}
 use Rattle.numbers.specs.Binary.{binary}
 use Rattle.numbers.specs.Decimal.{packed_decimal, pack, unpack, size}
-use Rattle.numbers.specs.Literals.{value_of, all_digits, digits_value, literal_reading}
+use Rattle.numbers.specs.Literals.{digits_value, literal_reading}
 use Rattle.numbers.specs.Writing.{DigitsReadBack, BinaryReadsBack, DecimalReadsBack}
-use Rattle.numbers.proofs.Literals.{read_whole}
+use Rattle.numbers.proofs.Literals.{own, read_whole}
 use Rattle.numbers.specs.Packs.{unpack_below, pack_unpack}
 use Rattle.numbers.specs.Signs.{negative_written}
-
-own : IsNumeralModel (λ ds. all_digits ds ≡ true) (value_of 0)
-own = numerals_by_fold _ (search rules) value_of (search rules)
 
 read_decimal : (n : ℕ) → n < 10 ^ 10 → digits_value (decimal n) ≡ Some n
 read_decimal n h =
     let some = decimal_nonempty n (omega arith) in
     let short = length-decimal-le 10 n (omega arith) h (omega arith) in
-    read_whole (decimal n) (omega arith) short
-    ∙ cond-true (all_digits (decimal n)) (Some (value_of 0 (decimal n))) None (digits_decimal own n (omega arith))
+    read_whole (decimal n) (omega arith) short (digits_decimal own n (omega arith))
     ∙ ap Some (digits_value-decimal own n (omega arith))
 
 pub digits_read_back : DigitsReadBack

@@ -7,15 +7,18 @@ abbrev pub packed : ℕ → ℕ → Bool
 packed zero w = w == 0
 packed (suc k) w = nat_lt (w % 16) 10 && packed k (w / 16)
 
+-- The number that the k lowest digits of n in base b write in base c.
+abbrev pub rebase : ℕ → ℕ → ℕ → ℕ → ℕ
+rebase b c zero n = 0
+rebase b c (suc k) n = n % b + c * rebase b c k (n / b)
+
 -- The number that the k lowest digits of a word write.
 abbrev pub unpack : ℕ → ℕ → ℕ
-unpack zero w = 0
-unpack (suc k) w = w % 16 + 10 * unpack k (w / 16)
+unpack k w = rebase 16 10 k w
 
 -- The word of a number's k lowest decimal digits.
 abbrev pub pack : ℕ → ℕ → ℕ
-pack zero n = 0
-pack (suc k) n = n % 10 + 16 * pack k (n / 10)
+pack k n = rebase 10 16 k n
 
 -- How many numbers there are.
 abbrev pub size : ℕ

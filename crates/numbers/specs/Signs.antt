@@ -1,5 +1,5 @@
 -- Two's complement words as integers, and the laws of the binary kind.
-use Rattle.std.specs.Prelude.{◌≡◌, ℕ, suc, ◌+◌, ◌-◌, ◌*◌, ◌%◌, ◌^◌, ◌<◌, ◌≤◌, Bool, true, false, cond, ◌∷◌, negsuc, Some, None, decimal, nat_lt, refl}
+use Rattle.std.specs.Prelude.{◌≡◌, ℕ, suc, ◌+◌, ◌-◌, ◌*◌, ◌%◌, ◌^◌, ◌<◌, ◌≤◌, true, cond, ◌∷◌, negsuc, Some, None, decimal, nat_lt, refl}
 use Rattle.std.proofs.Common.{ap, ◌∙◌, arith}
 use Rattle.std.specs.Int.Signed.{mag}
 use Rattle.std.proofs.lemmas.Bool.{ltb-true, lt-ltb}
@@ -22,14 +22,7 @@ pub wrapped_is_word : (n : ℕ) → nat_lt (n % 2 ^ 32) (2 ^ 32) ≡ true
 wrapped_is_word n = lt-ltb (n % 2 ^ 32) (2 ^ 32) (omega arith)
 
 literal_is_word : (n w : ℕ) → cond (nat_lt n (2 ^ 31)) (Some n) None ≡ Some w → nat_lt w (2 ^ 32) ≡ true
-literal_is_word n w = by_test (nat_lt n (2 ^ 31)) refl
-  where
-    by_test : (b : Bool) → nat_lt n (2 ^ 31) ≡ b → cond b (Some n) None ≡ Some w → nat_lt w (2 ^ 32) ≡ true
-    by_test true t e =
-        let lt = ltb-true n (2 ^ 31) t in
-        let same : w ≡ n = cc in
-        lt-ltb w (2 ^ 32) (omega arith)
-    by_test false t e = absurd (let z : ◌≡◌ {A = ℕ} 0 1 = cc in omega arith)
+literal_is_word n w e = grind (arith, nat_tests)
 
 pub binary_lawful : Laws binary
 binary_lawful = record {

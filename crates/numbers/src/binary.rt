@@ -7,7 +7,7 @@ use crate::digits::Digits;
 use crate::digits::writing::{decimal_digits, negative_digits};
 use crate::kind::NumberKind;
 
-#[derive(Clone, Copy)]
+#[derive(Clone, Copy, Debug, Default, PartialEq, Eq)]
 pub struct Binary;
 
 impl NumberKind for Binary {
@@ -31,24 +31,20 @@ impl NumberKind for Binary {
         x.wrapping_mul(y)
     }
 
-    // 2^31 more, modulo 2^32, puts the negative words below the others.
     fn less(&self, x: u32, y: u32) -> bool {
-        x.wrapping_add(0x8000_0000) < y.wrapping_add(0x8000_0000)
+        x.cast_signed() < y.cast_signed()
     }
 
     fn literal(&self, n: u64) -> Option<u32> {
-        if n < 0x8000_0000 {
-            Some(n as u32)
-        } else {
-            None
-        }
+        (n < 0x8000_0000).then(|| n as u32)
     }
 
     fn written(&self, word: u32) -> Digits {
-        if word < 0x8000_0000 {
-            decimal_digits(word)
+        let number = word.cast_signed();
+        if number < 0 {
+            negative_digits(number.unsigned_abs())
         } else {
-            negative_digits(0xffff_ffff - word + 1)
+            decimal_digits(word)
         }
     }
 }

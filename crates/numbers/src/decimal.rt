@@ -1,16 +1,20 @@
 // Eight packed decimal digits of four bits, modulo 100,000,000.
-ghost use Rattle.std.specs.Prelude.{◌≡◌, ◌+◌, ◌*◌, ◌^◌, ◌<◌, ◌≤◌};
-ghost use Rattle.numbers.specs.Decimal.{packed_decimal, pack, unpack, packed};
+ghost use Rattle.std.specs.Prelude.{◌≡◌, ◌+◌, ◌-◌, ◌*◌, ◌^◌, ◌<◌, ◌≤◌};
+ghost use Rattle.numbers.specs.Decimal.{packed_decimal, pack, unpack, packed, rebase};
 ghost use Rattle.numbers.specs.Packs.{decimal_lawful};
 
 use crate::digits::Digits;
 use crate::digits::writing::decimal_digits;
 use crate::kind::NumberKind;
 
-#[derive(Clone, Copy)]
+// How many numbers there are.
+const SIZE: u32 = 100_000_000;
+
+#[derive(Clone, Copy, Debug, Default, PartialEq, Eq)]
 pub struct Decimal;
 
 // Whether a word is k decimal digits, with nothing above them.
+// A recursion, digit by digit as the definition goes: `(0..k).all(..)` over shifts reads no plainer, and its answer is not seen to be `packed`.
 fn all_digits(k: u32, w: u32) -> bool
     ensures { result ≡ packed k w }
 {
@@ -21,30 +25,34 @@ fn all_digits(k: u32, w: u32) -> bool
     }
 }
 
-// The number that the k lowest digits of a word write.
-fn number_of(k: u32, w: u32) -> u32
-    requires { k ≤ 8 }
-    ensures value { result ≡ unpack k w }
-    ensures small { 3 * result + 5 ≤ 5 * 10 ^ k }
+// The number that the k lowest digits of n in one base write in another.
+// A recursion as the definition goes: a `fold` over the digits has no bound on its total, so `to *` could overflow there.
+fn rebased(from: u32, to: u32, k: u32, n: u32) -> u32
+    requires from { 2 ≤ from }
+    requires to { 2 ≤ to }
+    requires fits { (from - 1) * to ^ k ≤ (to - 1) * 2 ^ 32 }
+    ensures { result ≡ rebase from to k n }
 {
     if k == 0 {
         0
     } else {
-        w % 16 + 10 * number_of(k - 1, w / 16)
+        n % from + to * rebased(from, to, k - 1, n / from)
     }
 }
 
-// The word of a number's k lowest digits.
-fn word_of(k: u32, n: u32) -> u32
-    requires { k ≤ 8 }
-    ensures value { result ≡ pack k n }
-    ensures small { result < 16 ^ k }
+// The number that a word's digits write.
+fn number_of(word: u32) -> u32
+    ensures value { result ≡ unpack 8 word }
+    ensures small { 3 * result + 5 ≤ 5 * 10 ^ 8 }
 {
-    if k == 0 {
-        0
-    } else {
-        n % 10 + 16 * word_of(k - 1, n / 10)
-    }
+    rebased(16, 10, 8, word)
+}
+
+// The word of a number's eight lowest digits.
+fn word_of(n: u32) -> u32
+    ensures { result ≡ pack 8 n }
+{
+    rebased(10, 16, 8, n)
 }
 
 impl NumberKind for Decimal {
@@ -57,34 +65,27 @@ impl NumberKind for Decimal {
     }
 
     fn sum(&self, x: u32, y: u32) -> u32 {
-        word_of(8, (number_of(8, x) + number_of(8, y)) % 100_000_000)
+        word_of((number_of(x) + number_of(y)) % SIZE)
     }
 
     fn difference(&self, x: u32, y: u32) -> u32 {
-        word_of(
-            8,
-            (number_of(8, x) + (200_000_000 - number_of(8, y))) % 100_000_000,
-        )
+        word_of((number_of(x) + (2 * SIZE - number_of(y))) % SIZE)
     }
 
     fn product(&self, x: u32, y: u32) -> u32 {
-        let exact = number_of(8, x) as u64 * number_of(8, y) as u64;
-        word_of(8, (exact % 100_000_000) as u32)
+        let exact = number_of(x) as u64 * number_of(y) as u64;
+        word_of((exact % SIZE as u64) as u32)
     }
 
     fn less(&self, x: u32, y: u32) -> bool {
-        number_of(8, x) < number_of(8, y)
+        number_of(x) < number_of(y)
     }
 
     fn literal(&self, n: u64) -> Option<u32> {
-        if n < 100_000_000 {
-            Some(word_of(8, n as u32))
-        } else {
-            None
-        }
+        (n < SIZE as u64).then(|| word_of(n as u32))
     }
 
     fn written(&self, word: u32) -> Digits {
-        decimal_digits(number_of(8, word))
+        decimal_digits(number_of(word))
     }
 }

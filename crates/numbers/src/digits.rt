@@ -3,10 +3,13 @@ ghost use Rattle.std.specs.Prelude.{◌≤◌};
 
 pub mod writing;
 
-// The bytes from index `from` on.
+// Ten digits and a sign.
+const LONGEST: usize = 11;
+
+// The bytes from index `from` on. A fixed array with its start and no `ArrayVec`, so that a written form is `Copy`.
 #[derive(Clone, Copy)]
 pub struct Digits {
-    bytes: [u8; 11],
+    bytes: [u8; LONGEST],
     from: usize,
     ghost within: { from ≤ 11 },
 }

@@ -4,7 +4,7 @@ ghost use Rattle.numbers.specs.Writing.{DigitsReadBack, BinaryReadsBack, Decimal
 
 // Binary words stand for the integers from -2^31 to 2^31 - 1, and answers are the integers' modulo 2^32;
 // decimal words stand for the numbers below 100,000,000, each for one.
-pub fn readings_correspond() -> u8
+pub fn readings_correspond()
     ensures sums { SumsWrap }
     ensures differences { DifferencesWrap }
     ensures products { ProductsWrap }
@@ -12,15 +12,11 @@ pub fn readings_correspond() -> u8
     ensures packs { PacksEveryNumber }
     ensures unpacks { UnpacksEveryWord }
     ensures ends { EndsWrap }
-{
-    0
-}
+{}
 
 // A number that is written without a minus sign, read as a literal, is the number.
-pub fn writing_reads_back() -> u8
+pub fn writing_reads_back()
     ensures digits { DigitsReadBack }
     ensures binary { BinaryReadsBack }
     ensures decimal { DecimalReadsBack }
-{
-    0
-}
+{}

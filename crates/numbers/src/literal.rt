@@ -1,24 +1,26 @@
 // Literals: decimal digits, and the word that a kind reads from them.
 ghost use Rattle.std.specs.Prelude.{◌≡◌};
-ghost use Rattle.numbers.specs.Literals.{digits_value, literal_reading};
+ghost use Rattle.std.specs.List.{list_all};
+ghost use Rattle.numbers.specs.Literals.{is_digit, digits_value, literal_reading};
 
 use crate::kind::NumberKind;
+use std::str::from_utf8;
+
+// Whether bytes are decimal digits.
+fn are_digits(bytes: &[u8]) -> bool
+    ensures { result ≡ list_all is_digit bytes.now }
+{
+    bytes.iter().all(|byte| byte.is_ascii_digit())
+}
 
 // The number that one to ten decimal digits write; none where the bytes are no such digits.
 pub fn literal_value(digits: &[u8]) -> Option<u64>
     ensures { result ≡ digits_value digits.now }
 {
-    if digits.is_empty() || digits.len() > 10 {
+    if digits.len() > 10 || !are_digits(digits) {
         return None;
     }
-    let mut value = 0u64;
-    for &digit in digits {
-        if !digit.is_ascii_digit() {
-            return None;
-        }
-        value = value * 10 + (digit - b'0') as u64;
-    }
-    Some(value)
+    from_utf8(digits).ok()?.parse().ok()
 }
 
 // The word that a kind reads from digits; none where they write no number of the kind.

@@ -1,8 +1,8 @@
 -- What stands first, by the byte that it begins with.
-use Rattle.std.proofs.Common.{◌≡◌, ℕ, ◌+◌, ◌<◌, ◌≤◌, Bool, true, false, cond, ◌&&◌, ◌||◌, eqb, leb, ◌⊎◌, List, [], ◌∷◌, map, length, get_or, take, drop, Ok, Err, Result, sym, refl, ap, ◌∙◌, subst, inl, inr, arith}
+use Rattle.std.proofs.Common.{◌≡◌, ℕ, ◌+◌, ◌<◌, ◌≤◌, Bool, true, false, cond, ◌&&◌, ◌||◌, eqb, ◌⊎◌, List, [], ◌∷◌, map, length, get_or, take, drop, Ok, Err, Result, sym, refl, ap, ◌∙◌, subst, inl, inr, arith}
 use Rattle.std.specs.List.{AllByRecursion as All}
 use Rattle.std.proofs.lemmas.List.{drop_more, get_or-drop}
-use Rattle.std.proofs.lemmas.Bool.{cond_both, cond-true, cond-false, eqb-true, eqb-false, le-leb, and_parts, cases_eq, or_left, ne_eqb, both_ways}
+use Rattle.std.proofs.lemmas.Bool.{cases_lt, lt-leb, cond_both, cond-false, eqb-true, eqb-false, le-leb, and_parts, cases_eq, or_left, ne_eqb, both_ways}
 use Rattle.std.proofs.lemmas.Bool.Decides.{nat_tests}
 use Rattle.reader.specs.declared.classes.Start.{Start}
 use Rattle.reader.specs.declared.classes.Start.TheVariants.{Separator, Word, Number, Sign, Equal, Nothing}
@@ -12,7 +12,7 @@ use Rattle.reader.specs.declared.token.Token.{Token}
 use Rattle.reader.specs.declared.token.Tag.{Tag}
 use Rattle.reader.specs.declared.token.Tag.TheVariants as tags
 use Rattle.reader.specs.Tokens.{Lexeme, First, space, nothing, lexeme, Class, name, number, fixed, same, among, blank, letter, digit, letter_or_digit, run, begins, first, up_to, signs, sign_of, word_class}
-use Rattle.reader.specs.Views.{spelled, class_of, part}
+use Rattle.reader.specs.Views.{spelled, class_of, part, lexeme_of}
 use Rattle.reader.specs.Reads.{sign_tags, sign_in, start_of, word_tags, tag_in, word_tag, word_first, equal_token, first_of, Shows}
 use Rattle.reader.proofs.Runs.{run_on, run_take}
 
@@ -60,21 +60,31 @@ word_spelled w = spelled_in w word_tags spelt_words
 
 -- ---- names, reserved words and numbers
 
+-- a token of at most so many bytes, else none
+pub record Limited (most at n : ℕ) (t : Tag) (r : Result Token Fault) : Type 0 where
+  pub ok : n ≤ most → r ≡ Ok (record { tag = t; at = at; len = n })
+  pub err : most < n → r ≡ Err (record { cause = NoToken; offset = at })
+
 module _ (text : List ℕ) (at n : ℕ) where
-  pub word_shows : n ≡ length (run letter_or_digit (drop at text)) → n ≤ 16 → (t : Tag) → t ≡ word_tag (part text at n) → Shows text at (word_first (run letter_or_digit (drop at text))) (Ok (record { tag = t; at = at; len = n }))
-  word_shows e h t k =
+  limited_shows : (most : ℕ) (c : Class) (w : List ℕ) (t : Tag) (r : Result Token Fault) → n ≡ length w → lexeme_of text (record { tag = t; at = at; len = n }) ≡ record { class = c; text = w; at = at } → Limited most at n t r → Shows text at (up_to most c w) r
+  limited_shows most c w t r e s l =
+      elim (cases_lt most n) [
+        | inl h ↦ rw (l.err h, lt-leb (length w) most (omega arith)) refl
+        | inr h ↦ rw (l.ok h, le-leb (length w) most (omega arith)) (s, e)
+      ]
+
+  pub word_shows : n ≡ length (run letter_or_digit (drop at text)) → (t : Tag) → t ≡ word_tag (part text at n) → (r : Result Token Fault) → Limited 16 at n t r → Shows text at (word_first (run letter_or_digit (drop at text))) r
+  word_shows e t k r l =
       let w = run letter_or_digit (drop at text) in
       let p : part text at n ≡ w = ap (λ (m : ℕ). take m (drop at text)) e ∙ run_take letter_or_digit (drop at text) in
       let k' : t ≡ word_tag w = k ∙ ap word_tag p in
-      subst (λ (f : First). Shows text at f (Ok (record { tag = t; at = at; len = n }))) (sym (cond-true (leb (length w) 16) (lexeme (word_class w) w) nothing (le-leb (length w) 16 (omega arith))))
-      (lexeme_eq (ap class_of k' ∙ word_class_is w) (ap (λ (v : List ℕ). spelled v t) p ∙ ap (spelled w) k' ∙ word_spelled w), e)
+      limited_shows 16 (word_class w) w t r e (lexeme_eq (ap class_of k' ∙ word_class_is w) (ap (λ (v : List ℕ). spelled v t) p ∙ ap (spelled w) k' ∙ word_spelled w)) l
 
-  pub number_shows : n ≡ length (run digit (drop at text)) → n ≤ 10 → Shows text at (up_to 10 number (run digit (drop at text))) (Ok (record { tag = tags.Number; at = at; len = n }))
-  number_shows e h =
+  pub number_shows : n ≡ length (run digit (drop at text)) → (r : Result Token Fault) → Limited 10 at n tags.Number r → Shows text at (up_to 10 number (run digit (drop at text))) r
+  number_shows e r l =
       let w = run digit (drop at text) in
       let p : part text at n ≡ w = ap (λ (m : ℕ). take m (drop at text)) e ∙ run_take digit (drop at text) in
-      subst (λ (f : First). Shows text at f (Ok (record { tag = tags.Number; at = at; len = n }))) (sym (cond-true (leb (length w) 10) (lexeme number w) nothing (le-leb (length w) 10 (omega arith))))
-      (lexeme_eq refl p, e)
+      limited_shows 10 number w tags.Number r e (lexeme_eq refl p) l
 
 -- ---- by the first byte
 

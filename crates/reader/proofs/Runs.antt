@@ -1,6 +1,6 @@
 -- Runs of bytes: one byte more, where one stops, and that it is the beginning of what it was taken from.
-use Rattle.std.proofs.Common.{◌≡◌, ℕ, suc, ◌+◌, ◌<◌, ◌≤◌, Bool, true, false, List, [], ◌∷◌, ◌++◌, length, get_or, take, drop, refl, ap, add-one, arith, drop_of_length-le, drop-cons}
-use Rattle.std.specs.List.{AllByRecursion as All}
+use Rattle.std.proofs.Common.{◌≡◌, ℕ, ◌+◌, ◌<◌, ◌≤◌, Bool, true, false, List, [], ◌∷◌, ◌++◌, length, get_or, take, drop, refl, ap, one-add, cond, arith}
+use Rattle.std.specs.List.{AllByRecursion as All, prefix_len}
 use Rattle.reader.specs.Tokens.{run}
 
 module _ (f : ℕ → Bool) where
@@ -9,15 +9,6 @@ module _ (f : ℕ → Bool) where
 
   pub run_off : (b : ℕ) (bs : List ℕ) → f b ≡ false → run f (b ∷ bs) ≡ []
   run_off b bs e = ap (λ (t : Bool). elim t [ true ↦ b ∷ run f bs | false ↦ [] ]) e
-
-  pub goes_on : (s : List ℕ) (i : ℕ) → i < length s → f (get_or s i 0) ≡ true → length (run f (drop i s)) ≡ suc (length (run f (drop (i + 1) s)))
-  goes_on s i h e = rw (add-one, drop-cons s i 0) (ap length (run_on (get_or s i 0) (drop (suc i) s) e))
-
-  pub stops : (s : List ℕ) (i : ℕ) → i < length s → f (get_or s i 0) ≡ false → length (run f (drop i s)) ≡ 0
-  stops s i h e = rw (drop-cons s i 0) (ap length (run_off (get_or s i 0) (drop (suc i) s) e))
-
-  pub at_end : (s : List ℕ) (i : ℕ) → length s ≤ i → length (run f (drop i s)) ≡ 0
-  at_end s i h = ap (λ l. length (run f l)) (drop_of_length-le s h)
 
   -- what holds of a list and its run, byte by byte
   module _ (P : List ℕ → List ℕ → Type 0) (none : P [] []) (more : (b : ℕ) (bs : List ℕ) → f b ≡ true → P bs (run f bs) → P (b ∷ bs) (b ∷ run f bs)) (stop : (b : ℕ) (bs : List ℕ) → f b ≡ false → P (b ∷ bs) []) where
@@ -45,3 +36,12 @@ module _ (f : ℕ → Bool) where
 
   pub run_all : (s : List ℕ) → All (λ b. f b ≡ true) (run f s)
   run_all = by_run (λ s r. All (λ b. f b ≡ true) r) tt (λ b bs e p. (e, p)) (λ b bs e. tt)
+
+  -- the run, as the library's iterators take it
+  pub run_taken : (s : List ℕ) → take (prefix_len f s) s ≡ run f s
+  run_taken [] = refl
+  run_taken (b ∷ bs) = one (f b) (run_taken bs)
+    where
+      one : (t : Bool) → take (prefix_len f bs) bs ≡ run f bs → take (cond t (1 + prefix_len f bs) 0) (b ∷ bs) ≡ elim t [ true ↦ b ∷ run f bs | false ↦ [] ]
+      one true e = rw one-add (ap (λ (l : List ℕ). b ∷ l) e)
+      one false e = refl

@@ -56,6 +56,3 @@ tested bs =
 
 pub tag_tested : (bs : List ℕ) → word_tag bs ≡ tested bs
 tag_tested bs = rw (same_places bs (codes "var"), same_places bs (codes "next"), same_places bs (codes "know"), same_places bs (codes "take"), same_places bs (codes "if"), same_places bs (codes "else"), same_places bs (codes "while"), same_places bs (codes "par"), same_places bs (codes "try"), same_places bs (codes "catch"), same_places bs (codes "throw"), same_places bs (codes "proc"), same_places bs (codes "main"))
-
-pub no_word : (bs : List ℕ) → is bs (codes "var") ≡ false → is bs (codes "next") ≡ false → is bs (codes "know") ≡ false → is bs (codes "take") ≡ false → is bs (codes "if") ≡ false → is bs (codes "else") ≡ false → is bs (codes "while") ≡ false → is bs (codes "par") ≡ false → is bs (codes "try") ≡ false → is bs (codes "catch") ≡ false → is bs (codes "throw") ≡ false → is bs (codes "proc") ≡ false → is bs (codes "main") ≡ false → Name ≡ word_tag bs
-no_word bs e0 e1 e2 e3 e4 e5 e6 e7 e8 e9 e10 e11 e12 = sym (tag_tested bs ∙ rw (e0, e1, e2, e3, e4, e5, e6, e7, e8, e9, e10, e11, e12))

@@ -1,5 +1,5 @@
 -- Refusals of a text: their numbers and stages, and results that stop at the first fault.
-use Rattle.std.specs.Prelude.{◌≡◌, ℕ, Bool, true, false, Ok, Err, Result}
+use Rattle.std.specs.Prelude.{◌≡◌, ℕ, Bool, true, false, List, ◌++◌, Ok, Err, Result, codes, decimal}
 use Rattle.reader.specs.declared.fault.Fault.{Fault}
 use Rattle.reader.specs.declared.fault.Cause.{Cause}
 use Rattle.reader.specs.declared.fault.Cause.TheVariants.{
@@ -74,6 +74,14 @@ refused_for f = Refused f
 
 abbrev pub no_memory : Error
 no_memory = OutOfMemory
+
+-- how a refusal is printed
+abbrev pub refusal_text : Fault → List ℕ
+refusal_text f = codes "refused=" ++ decimal (number_of f.cause) ++ codes " at=" ++ decimal f.offset ++ codes " stage=" ++ decimal (stage_of f.cause)
+
+abbrev pub error_text : Error → List ℕ
+error_text (Refused f) = refusal_text f
+error_text OutOfMemory = codes "out of memory"
 
 -- Code that allocates may also run out of memory; otherwise it answers what the definition says,
 -- where `shows` tells how a value of the code stands for one of the definition.

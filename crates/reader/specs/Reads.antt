@@ -1,9 +1,7 @@
 -- What one call of the reader answers: what a byte can begin, a word's tag, and the token that stands next.
-use Rattle.std.specs.Prelude.{◌≡◌, ℕ, ◌+◌, Bool, cond, List, [], ◌∷◌, length, drop, Ok, Err, Result, ◌==◌, slice_index}
+use Rattle.std.specs.Prelude.{◌≡◌, ℕ, ◌+◌, cond, List, [], ◌∷◌, length, drop, Ok, Err, Result, ◌==◌, slice_index}
 use Rattle.reader.specs.declared.classes.Start.{Start}
 use Rattle.reader.specs.declared.classes.Start.TheVariants.{Separator, Word, Number, Sign, Equal, Nothing}
-use Rattle.reader.specs.declared.classes.Run.{Run}
-use Rattle.reader.specs.declared.classes.Run.TheVariants as runs
 use Rattle.reader.specs.declared.fault.Fault.{Fault}
 use Rattle.reader.specs.declared.fault.Cause.TheVariants.{NoToken}
 use Rattle.reader.specs.declared.token.Token.{Token}
@@ -37,7 +35,7 @@ use Rattle.reader.specs.declared.token.Tag.TheVariants.{
   Proc,
   Main,
 }
-use Rattle.reader.specs.Tokens.{First, space, nothing, lexeme, finish, same, blank, letter, digit, letter_or_digit, run, first, up_to, word_class}
+use Rattle.reader.specs.Tokens.{First, space, nothing, lexeme, finish, same, blank, letter, digit, run, first, up_to, word_class}
 use Rattle.reader.specs.Views.{spelled, lexeme_of}
 
 -- the signs of one byte that begin no longer one
@@ -50,11 +48,6 @@ sign_in (t ∷ ts) b = cond (same (b ∷ []) (spelled [] t)) (Sign t) (sign_in t
 
 abbrev pub start_of : ℕ → Start
 start_of b = cond (blank b) Separator (cond (letter b) Word (cond (digit b) Number (sign_in sign_tags b)))
-
-abbrev pub goes_on : Run → ℕ → Bool
-goes_on runs.Separators = blank
-goes_on runs.Word = letter_or_digit
-goes_on runs.Digits = digit
 
 abbrev pub word_tags : List Tag
 word_tags = Var ∷ Next ∷ Know ∷ Take ∷ If ∷ Else ∷ While ∷ Par ∷ Try ∷ Catch ∷ Throw ∷ Proc ∷ Main ∷ []

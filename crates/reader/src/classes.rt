@@ -1,6 +1,7 @@
 // What single bytes and whole words are to the reader.
 ghost use Rattle.std.specs.Prelude.{◌≡◌};
-ghost use Rattle.reader.specs.Reads.{start_of, goes_on, word_tag};
+ghost use Rattle.reader.specs.Reads.{start_of, word_tag};
+ghost use Rattle.reader.specs.Tokens.{blank, letter_or_digit, digit};
 
 use crate::token::Tag;
 
@@ -40,26 +41,23 @@ pub(crate) fn begins(b: u8) -> Start
     }
 }
 
-// A run of bytes of one sort.
-#[derive(Clone, Copy)]
-pub(crate) enum Run {
-    Separators,
-    // letters and digits
-    Word,
-    Digits,
+// Whether a byte stands between tokens.
+pub(crate) fn is_separator(b: u8) -> bool
+    ensures { result ≡ blank b }
+{
+    matches!(b as char, ' ' | '\n')
 }
 
-impl Run {
-    // Whether a run goes on at a byte.
-    pub(crate) fn has(self, b: u8) -> bool
-        ensures { result ≡ goes_on self b }
-    {
-        match self {
-            Run::Separators => matches!(b as char, ' ' | '\n'),
-            Run::Word => matches!(b as char, 'A'..='Z' | 'a'..='z' | '0'..='9'),
-            Run::Digits => matches!(b as char, '0'..='9'),
-        }
-    }
+pub(crate) fn is_letter_or_digit(b: u8) -> bool
+    ensures { result ≡ letter_or_digit b }
+{
+    b.is_ascii_alphanumeric()
+}
+
+pub(crate) fn is_digit(b: u8) -> bool
+    ensures { result ≡ digit b }
+{
+    b.is_ascii_digit()
 }
 
 // A reserved word's own tag; any other word is a name.

@@ -1,8 +1,9 @@
 // Why a text is refused. Each cause has the number that the rules give it.
-ghost use Rattle.std.specs.Prelude.{◌≡◌};
-ghost use Rattle.reader.specs.Faults.{number_of, stage_of, must, refused_for, no_memory};
+ghost use Rattle.std.specs.Prelude.{◌≡◌, Some};
+ghost use Rattle.reader.specs.Faults.{number_of, stage_of, must, refusal_text, error_text, refused_for, no_memory};
 
 use std::alloc::{AllocError, AllocFailed};
+use std::{error, fmt};
 
 #[derive(Clone, Copy, PartialEq, Eq, Debug)]
 pub enum Cause {
@@ -112,3 +113,29 @@ impl<T: Drop> From<AllocFailed<T>> for Error {
         Error::OutOfMemory
     }
 }
+
+impl fmt::Display for Fault {
+    ghost output = { λ f. Some (refusal_text f) };
+
+    fn fmt<W: fmt::Write>(&self, f: &mut fmt::Formatter<W>) -> fmt::Result {
+        let number = self.number();
+        let offset = self.offset;
+        let stage = self.stage();
+        write!(f, "refused={number} at={offset} stage={stage}")
+    }
+}
+
+impl error::Error for Fault {}
+
+impl fmt::Display for Error {
+    ghost output = { λ e. Some (error_text e) };
+
+    fn fmt<W: fmt::Write>(&self, f: &mut fmt::Formatter<W>) -> fmt::Result {
+        match self {
+            Error::Refused(fault) => write!(f, "{fault}"),
+            Error::OutOfMemory => write!(f, "out of memory"),
+        }
+    }
+}
+
+impl error::Error for Error {}

@@ -1,14 +1,14 @@
 // The reader stands over the borrowed text and reads one token after the other.
-ghost use Rattle.std.specs.Prelude.{◌≡◌, ℕ, ◌+◌, ◌<◌, ◌≤◌, true, false, length, drop, IfOk, nat_le, slice_index};
+ghost use Rattle.std.specs.Prelude.{◌≡◌, ℕ, ◌+◌, ◌<◌, ◌≤◌, Bool, true, false, length, drop, IfOk, nat_le, slice_index};
 ghost use Rattle.reader.specs.Tokens as tokens;
-ghost use Rattle.reader.specs.Faults.{Meets, must};
+ghost use Rattle.reader.specs.Faults.{Meets};
 ghost use Rattle.reader.specs.Language.{Laid};
 ghost use Rattle.reader.specs.Lists.{Ended};
-ghost use Rattle.reader.specs.Reads.{goes_on, word_first, equal_token, next_at, first_of, Shows, stands};
+ghost use Rattle.reader.specs.Reads.{word_first, equal_token, next_at, first_of, Shows, stands};
 ghost use Rattle.reader.specs.Views as views;
 
-use crate::classes::{Run, Start, begins, word_tag};
-use crate::fault::{Cause, Error, Fault};
+use crate::classes::{Start, begins, is_digit, is_letter_or_digit, is_separator, word_tag};
+use crate::fault::{Cause, Error, Fault, must};
 use crate::token::{Tag, Token};
 use std::alloc::Global;
 
@@ -24,54 +24,45 @@ pub fn part<'a>(text: &'a [u8], at: usize, len: usize) -> &'a [u8]
     &text[from..from + count]
 }
 
-// Where a run that begins at an index ends.
-fn run_end(text: &[u8], from: usize, kind: Run) -> usize
-    ensures { result ≡ from + length (tokens.run (goes_on kind) (drop from text.now)) }
+// How many bytes from an index on pass a test, one after the other.
+fn run_len<F: Fn(u8) -> bool>(text: &[u8], from: usize, passes: F) -> usize
+    requires { F.IsAlwaysCallable passes }
+    ensures { (test : ℕ → Bool) → ((b : ℕ) (r : Bool) → F.post passes b r → r ≡ test b) → result ≡ length (tokens.run test (drop from text.now)) }
 {
-    let mut at = from;
-    while at < text.len() && kind.has(text[at]) {
-        at += 1;
-    }
-    at
+    text.iter().skip(from).take_while(|b| passes(**b)).count()
 }
 
-fn no_token(at: usize) -> Fault
-    ensures { result ≡ record { cause = Cause.NoToken; offset = at } }
+// Where the separators from an index on end.
+fn past_separators(text: &[u8], from: usize) -> usize
+    requires { from ≤ length text.now }
+    ensures { result ≡ next_at text.now from }
 {
-    Fault {
-        cause: Cause::NoToken,
-        offset: at,
-    }
+    from + run_len(text, from, is_separator)
+}
+
+// A token of so many bytes at an index, where at most so many are allowed.
+fn limited(tag: Tag, at: usize, len: usize, most: usize) -> Result<Token, Fault>
+    ensures ok { len ≤ most → result ≡ Ok (record { tag = tag; at = at; len = len }) }
+    ensures err { most < len → result ≡ Err (record { cause = Cause.NoToken; offset = at }) }
+{
+    must(len <= most, Cause::NoToken, at)?;
+    Ok(Token { tag, at, len })
 }
 
 // The name or reserved word that the letters and digits from an index on make.
 fn word_at(text: &[u8], at: usize) -> Result<Token, Fault>
     ensures { Shows text.now at (word_first (tokens.run tokens.letter_or_digit (drop at text.now))) result }
 {
-    let len = run_end(text, at, Run::Word) - at;
-    if len > 16 {
-        return Err(no_token(at));
-    }
-    Ok(Token {
-        tag: word_tag(part(text, at, len)),
-        at,
-        len,
-    })
+    let len = run_len(text, at, is_letter_or_digit);
+    limited(word_tag(part(text, at, len)), at, len, 16)
 }
 
 // The number that the digits from an index on make.
 fn number_at(text: &[u8], at: usize) -> Result<Token, Fault>
     ensures { Shows text.now at (tokens.up_to 10 tokens.number (tokens.run tokens.digit (drop at text.now))) result }
 {
-    let len = run_end(text, at, Run::Digits) - at;
-    if len > 10 {
-        return Err(no_token(at));
-    }
-    Ok(Token {
-        tag: Tag::Number,
-        at,
-        len,
-    })
+    let len = run_len(text, at, is_digit);
+    limited(Tag::Number, at, len, 10)
 }
 
 // The sign = or == whose first byte stands at an index.
@@ -79,15 +70,8 @@ fn equal_at(text: &[u8], at: usize) -> Token
     requires { at < length text.now }
     ensures { result ≡ equal_token text.now at }
 {
-    if at + 1 == text.len() {
-        return Token {
-            tag: Tag::Assign,
-            at,
-            len: 1,
-        };
-    }
-    match text[at + 1] as char {
-        '=' => Token {
+    match text.get(at + 1) {
+        Some(b'=') => Token {
             tag: Tag::Equals,
             at,
             len: 2,
@@ -111,7 +95,7 @@ fn token_at(text: &[u8], at: usize) -> Result<Token, Fault>
         Start::Equal => Ok(equal_at(text, at)),
         Start::Word => word_at(text, at),
         Start::Number => number_at(text, at),
-        Start::Separator | Start::Nothing => Err(no_token(at)),
+        Start::Separator | Start::Nothing => Err(Cause::NoToken.at(at)),
     }
 }
 
@@ -139,7 +123,7 @@ impl<'a> Reader<'a> {
         ensures stands { self.new.at ≡ stands (next_at self.old.text.now self.old.at) result }
     {
         let text = self.text;
-        let at = run_end(text, self.at, Run::Separators);
+        let at = past_separators(text, self.at);
         self.at = at;
         if at >= text.len() {
             return Ok(Token {
@@ -161,31 +145,19 @@ impl<'a> Reader<'a> {
     }
 }
 
-fn check_length(text: &[u8]) -> Result<(), Fault>
-    ensures { result ≡ must (nat_le (length text.now) 16384) Cause.TextTooLong 16384 }
-{
-    if text.len() > MOST_BYTES {
-        return Err(Fault {
-            cause: Cause::TextTooLong,
-            offset: MOST_BYTES,
-        });
-    }
-    Ok(())
-}
-
 // All tokens of a text, the text's end last; or the first fault.
 pub fn read(heap: Global, text: &[u8]) -> Result<Vec<Token>, Error>
     ensures exact { Meets (λ v ls. views.lexemes text.now v.items ≡ ls) result (tokens.tokenized text.now) }
     ensures laid { IfOk result (λ v. Laid 0 text.now (views.lexemes text.now v.items)) }
     ensures ended { IfOk result (λ v. Ended text.now v.items) }
 {
-    check_length(text)?;
+    must(text.len() <= MOST_BYTES, Cause::TextTooLong, MOST_BYTES)?;
     let mut found = Vec::new(heap);
     let mut reader = Reader::new(text);
     loop {
         let token = reader.next()?;
         found.push(token)?;
-        if let Tag::End = token.tag {
+        if token.tag == Tag::End {
             return Ok(found);
         }
     }

@@ -63,6 +63,6 @@ fn one_by_one(rt: HostRuntime) -> Result<(), Fail> {
     assert_eq!(rt; reader.next()?.tag, Tag::Number);
     let end = reader.next()?;
     assert_eq!(rt; (end.tag, end.at, end.len), (Tag::End, 13, 0));
-    assert!(rt; reader.next()?.tag.is(Tag::End) && !sign.tag.is(Tag::Assign));
+    assert!(rt; reader.next()?.tag == Tag::End && sign.tag != Tag::Assign);
     Ok(())
 }

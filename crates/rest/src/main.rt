@@ -2,7 +2,6 @@
 // token, then the text's literals as the words of a tape, summed in both number kinds beside a counter.
 #![tactic(auto)]
 
-use anyhow::anyhow;
 use banks::bank::Bank;
 use banks::counter::Counter;
 use banks::tape::Tape;
@@ -30,13 +29,10 @@ fn run(rt: &HostRuntime) -> anyhow::Result<()> {
             show_sums(rt, &Decimal, "decimal", text.as_slice(), tokens.as_slice())
         }
         Err(Error::Refused(fault)) => {
-            let number = fault.number();
-            let offset = fault.offset;
-            let stage = fault.stage();
-            println!(rt; "refused={number} at={offset} stage={stage}")?;
+            println!(rt; "{fault}")?;
             Ok(())
         }
-        Err(Error::OutOfMemory) => Err(anyhow!("out of memory")),
+        Err(error) => Err(error.into()),
     }
 }
 
@@ -115,7 +111,7 @@ fn show_sums<K: NumberKind>(
 ) -> anyhow::Result<()> {
     let mut words = Vec::new(rt.alloc());
     for token in tokens {
-        if let Tag::Number = token.tag {
+        if token.tag == Tag::Number {
             if let Some(word) = read_literal(kind, part(text, token.at, token.len)) {
                 words.push(word)?;
             }

@@ -3,18 +3,14 @@ ghost use Rattle.rules.specs.EffectLaws.{ThrowTells, CloseTells, MeetTells, Pois
 
 // A throw to another place poisons the thrower, lowers the mark of the try's place and marks those between; a close puts
 // the place where its mark says, and its children are idle; nothing else changes.
-pub fn throw_and_close_tell() -> u8
+pub fn throw_and_close_tell()
     ensures throws { ThrowTells }
     ensures closes { CloseTells }
-{
-    0
-}
+{}
 
 // A meet passes every counted next and gives its own cell the home's value; a poison poisons every counted place that
 // waits and marks every counted one that is parted; nothing else changes.
-pub fn meet_and_poison_tell() -> u8
+pub fn meet_and_poison_tell()
     ensures meets { MeetTells }
     ensures poisons { PoisonTells }
-{
-    0
-}
+{}

@@ -13,30 +13,24 @@ ghost use Rattle.rules.specs.ListingLaws.{
 };
 
 // A kind and two numbers name a move exactly if it exists and this is its name.
-pub fn names_tell() -> u8
+pub fn names_tell()
     ensures { NamesTell }
-{
-    0
-}
+{}
 
 // The listing holds exactly the permitted moves that exist, each once, in the order of names; every permitted move
 // exists, so an empty listing is rest.
-pub fn listing_tells() -> u8
+pub fn listing_tells()
     ensures holds { ListingTells }
     ensures ordered { ListingOrdered }
     ensures once { ListingOnce }
     ensures exists { PermittedExists }
     ensures rest { RestTells }
-{
-    0
-}
+{}
 
 // The verdict is finished if place 0 is, else deadlock at rest, else moving; a finished board is at rest.
-pub fn verdict_tells() -> u8
+pub fn verdict_tells()
     ensures finished { VerdictFinished }
     ensures deadlock { VerdictDeadlock }
     ensures moving { VerdictMoving }
     ensures rests { FinishedRests }
-{
-    0
-}
+{}

@@ -10,26 +10,20 @@ ghost use Rattle.rules.specs.Safety.{
 };
 
 // A board is well formed at power, every permitted move keeps it so, and so is every state reached.
-pub fn states_are_well_formed() -> u8
+pub fn states_are_well_formed()
     ensures power { AtPower }
     ensures kept { Kept }
     ensures reached { ReachedWellFormed }
-{
-    0
-}
+{}
 
 // Every cell always holds a number of the kind.
-pub fn cells_hold_numbers() -> u8
+pub fn cells_hold_numbers()
     ensures power { NumbersAtPower }
     ensures kept { NumbersKept }
     ensures reached { ReachedNumbers }
-{
-    0
-}
+{}
 
 // The count of moves is the number of moves made.
-pub fn moves_are_counted() -> u8
+pub fn moves_are_counted()
     ensures { MovesCounted }
-{
-    0
-}
+{}

@@ -1,11 +1,12 @@
 -- The first block of a statement with the try that it stands in, and then the second without it.
-use Rattle.std.proofs.Common.{◌≡◌, ℕ, List, [], ◌++◌, length, take, Ok, Result, sym, refl, ap, ◌∙◌, subst, append-nil}
+use Rattle.std.proofs.Common.{◌≡◌, ℕ, List, [], ◌++◌, length, take, Ok, Err, Result, sym, refl, ap, ◌∙◌, append-nil}
 use Rattle.reader.specs.declared.fault.Error.{Error}
+use Rattle.reader.specs.declared.fault.Error.TheVariants.{Refused, OutOfMemory}
 use Rattle.reader.specs.Faults.{Answer, Meets, ◌>>=◌}
 use Rattle.grammar.specs.declared.tree.Name as code-name
 use Rattle.names.specs.Scopes.{scope}
 use Rattle.names.proofs.Stacks.{stacked_push}
-use Rattle.names.proofs.Declaring.{met_ok, met_by, cut}
+use Rattle.names.proofs.Declaring.{met_ok, cut}
 use Rattle.unfold.specs.declared.nodes.Part as code-part
 use Rattle.unfold.specs.declared.nodes.Part.TheVariants as parts
 use Rattle.unfold.specs.declared.nodes.Nodes as code-nodes
@@ -36,16 +37,26 @@ first_is text ns ms at h a a' b i e d =
     ∙ ap (λ (ts : List (List ℕ)). sharing ts (nodes text a) >>= F) (ap (scope text) d ∙ opened_scope text ns h)
     ∙ ap (λ (r : Answer (Unit {0})). r >>= (λ u. sharing (part_tries (scope text ns) (part text h)) (nodes text a) >>= F)) e
 
--- ms' is the table after the first block, xs when the try is closed, zs after the second block
-pub second_is : (text : List ℕ) (ns ms ms' xs zs : List code-name.Name) (n at : ℕ) (h : code-part.Part) (a a' b b' : code-nodes.Nodes) (whole : Answer (Unit {0})) (r : Result (Unit {0}) Error)
+-- text' and ms' are the text and the table after the first block, xs the table when the try is closed
+pub second_is : (text text' : List ℕ) (ns ms ms' xs : List code-name.Name) (n at : ℕ) (h : code-part.Part) (a a' b b' : code-nodes.Nodes) (whole : Answer (Unit {0}))
     → whole ≡ both text ns at h a b → a' ≡ a → b' ≡ b → Ok tt ≡ part_sharing at (part text h) → ms ≡ ns ++ opens h
-    → Meets (λ (u w : Unit {0}). ms' ≡ ms) (Ok tt) (sharing (scope text ms) (nodes text a')) → n ≡ length ns → xs ≡ take n ms'
-    → Meets (λ (u w : Unit {0}). zs ≡ xs) r (sharing (scope text xs) (nodes text b')) → Meets (λ (u w : Unit {0}). zs ≡ ns) r whole
-second_is text ns ms ms' xs zs n at h a a' b b' whole r is i j e d first hn hx second =
-    let o = met_ok (λ (u w : Unit {0}). ms' ≡ ms) tt (sharing (scope text ms) (nodes text a')) first in
-    let F : Unit {0} → Answer (Unit {0}) = λ w. sharing (scope text ns) (nodes text b) in
-    let k : xs ≡ ns = cut ns ns ms ms' xs (opens h) n refl d o.2 hn hx in
-    let l : sharing (scope text ns) (nodes text b') ≡ whole =
-    ap (λ (x : code-nodes.Nodes). sharing (scope text ns) (nodes text x)) j ∙ sym (ap (λ (x : Answer (Unit {0})). x >>= F) o.1) ∙ first_is text ns ms at h a a' b i e d ∙ sym is in
-    met_by (λ (u w : Unit {0}). zs ≡ ns) {x = r} {y = r} refl l
-    (subst (λ (ys : List code-name.Name). Meets (λ (u w : Unit {0}). zs ≡ ys) r (sharing (scope text ys) (nodes text b'))) k second)
+    → Meets (λ (u w : Unit {0}). (text' ≡ text) × (ms' ≡ ms)) (Ok tt) (sharing (scope text ms) (nodes text a')) → n ≡ length ns → xs ≡ take n ms'
+    → (sharing (scope text' xs) (nodes text' b') ≡ whole) × (text' ≡ text) × (xs ≡ ns)
+second_is text text' ns ms ms' xs n at h a a' b b' whole is i j e d first hn hx =
+    let o = met_ok (λ (u w : Unit {0}). (text' ≡ text) × (ms' ≡ ms)) tt (sharing (scope text ms) (nodes text a')) first in
+    let k : xs ≡ ns = cut ns ns ms ms' xs (opens h) n refl d o.2.1 hn hx in (
+      ap (λ (x : List ℕ). sharing (scope x xs) (nodes x b')) o.2.0
+          ∙ ap (λ (ys : List code-name.Name). sharing (scope text ys) (nodes text b')) k
+          ∙ ap (λ (x : code-nodes.Nodes). sharing (scope text ns) (nodes text x)) j
+          ∙ sym (ap (λ (x : Answer (Unit {0})). x >>= (λ w. sharing (scope text ns) (nodes text b))) o.1) ∙ first_is text ns ms at h a a' b i e d ∙ sym is,
+      o.2.0,
+      k,
+    )
+
+-- what is met is met by what follows from it
+pub met_map : {V A : Type 0} (P Q : V → A → Type 0) (x : Result V Error) (r : Answer A) → ((v : V) (a : A) → P v a → Q v a) → Meets P x r → Meets Q x r
+met_map P Q (Ok v) (Ok a) f h = f v a h
+met_map P Q (Ok v) (Err e) f h = h
+met_map P Q (Err (Refused g)) (Ok a) f h = h
+met_map P Q (Err (Refused g)) (Err e) f h = h
+met_map P Q (Err OutOfMemory) r f h = tt

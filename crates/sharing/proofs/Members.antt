@@ -105,7 +105,7 @@ in_writes w (x ∷ xs) h = first_or w x xs x.from refl (in_writes w xs) h
 
 first_in : (w : List ℕ) (x : Got) (xs : List Got) (o : Option ℕ) → o ≡ None → x.name.text ≡ w → In w (elim o [ None ↦ x.name.text ∷ writes xs | Some a ↦ writes xs ])
 first_in w x xs None e p = inl (sym p)
-first_in w x xs (Some a) e p = absurd (let z : ◌≡◌ {A = ℕ} 0 1 = cc in omega arith)
+first_in w x xs (Some a) e p = absurd cc
 
 rest_in : (w : List ℕ) (x : Got) (xs : List Got) (o : Option ℕ) → In w (writes xs) → In w (elim o [ None ↦ x.name.text ∷ writes xs | Some a ↦ writes xs ])
 rest_in w x xs None h = inr h

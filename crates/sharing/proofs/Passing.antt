@@ -1,5 +1,5 @@
 -- The stage passes exactly the texts whose every statement is fair.
-use Rattle.std.proofs.Common.{◌≡◌, ℕ, Bool, true, false, T, List, Ok, Err, refl, ap, ◌∙◌, arith}
+use Rattle.std.proofs.Common.{◌≡◌, ℕ, Bool, true, false, T, List, Ok, Err, refl, ap, ◌∙◌}
 use Rattle.reader.specs.declared.fault.Cause.{Cause}
 use Rattle.reader.specs.declared.fault.Cause.TheVariants.{WrittenTwice, ReferencedTwice, PortTwice, Uncaught}
 use Rattle.reader.specs.Faults.{Answer, must, ◌>>=◌}
@@ -12,7 +12,7 @@ use Rattle.sharing.proofs.Pairs.{tests_apart, apart_writes, apart_ports}
 
 must_holds : (b : Bool) (c : Cause) (at : ℕ) → must b c at ≡ Ok tt → T b
 must_holds true c at e = tt
-must_holds false c at e = absurd (let z : ◌≡◌ {A = ℕ} 0 1 = cc in omega arith)
+must_holds false c at e = absurd cc
 
 holds_must : (b : Bool) (c : Cause) (at : ℕ) → T b → must b c at ≡ Ok tt
 holds_must true c at h = refl
@@ -20,7 +20,7 @@ holds_must false c at h = absurd h
 
 both_pass : (r s : Answer (Unit {0})) → (r >>= (λ u. s)) ≡ Ok tt → (r ≡ Ok tt) × (s ≡ Ok tt)
 both_pass (Ok a) s e = (refl, e)
-both_pass (Err f) s e = absurd (let z : ◌≡◌ {A = ℕ} 0 1 = cc in omega arith)
+both_pass (Err f) s e = absurd cc
 
 pass_both : (r s : Answer (Unit {0})) → r ≡ Ok tt → s ≡ Ok tt → (r >>= (λ u. s)) ≡ Ok tt
 pass_both r s e f = ap (λ (x : Answer (Unit {0})). x >>= (λ u. s)) e ∙ f

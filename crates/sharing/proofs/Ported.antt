@@ -1,92 +1,91 @@
 -- The ports of the code's own tree are those of what it stands for, whatever the text.
-use Rattle.std.proofs.Common.{◌≡◌, ℕ, Bool, true, false, not, ◌&&◌, ◌||◌, eqb, List, [], ◌∷◌, ◌++◌, sym, refl, ap, ◌∙◌}
+use Rattle.std.proofs.Common.{◌≡◌, ℕ, Bool, true, false, not, ◌&&◌, ◌||◌, List, [], ◌∷◌, ◌++◌, vec_items, refl, ap, ◌∙◌}
+use Rattle.std.proofs.Math.Bool.{or-false}
+use Rattle.std.proofs.lemmas.List.Folds.{list_any-append}
+use Rattle.std.specs.List.{list_any}
+use Rattle.std.specs.Prelude.{◌==◌}
 use Rattle.rules.specs.Programs.{elem}
+use Rattle.unfold.specs.declared.nodes.Got as code_got
 use Rattle.unfold.specs.declared.nodes.Part as code-part
 use Rattle.unfold.specs.declared.nodes.Part.TheVariants as parts
 use Rattle.unfold.specs.declared.nodes.Node as code-node
 use Rattle.unfold.specs.declared.nodes.Nodes as code-nodes
 use Rattle.unfold.specs.declared.nodes.Branches as code-branches
 use Rattle.unfold.specs.declared.nodes.Branches.TheVariants as tree
-use Rattle.unfold.specs.Sharing.{part_ports, node_ports, ports, branch_ports, none_in, none_in_any, apart, all_ports}
-use Rattle.unfold.specs.Views.{part, node, nodes, branches}
-use Rattle.sharing.specs.Standing.{part_has, node_has, nodes_have, branches_have, part_clear, node_clear, nodes_clear, branches_clear, clear_of_all, all_clear}
-use Rattle.sharing.proofs.Listed.{or_false, and_true, or_group}
-
-pub or_both : {a b x y : Bool} → a ≡ x → b ≡ y → (a || b) ≡ (x || y)
-or_both {a} {b} {x} {y} e f = ap (λ (z : Bool). z || b) e ∙ ap (λ (z : Bool). x || z) f
+use Rattle.unfold.specs.Sharing.{part_ports, node_ports, ports, branch_ports, none_in, none_in_any, apart, all_ports, writes, none_among, none_among_any, names_apart, all_writes}
+use Rattle.unfold.specs.Views.{part, node, gots, nodes, branches}
+use Rattle.sharing.specs.Standing.{part_any, node_any, nodes_any, branches_any, nodes_have, nodes_clear, Test, with_later, pairwise}
 
 pub and_both : {a b x y : Bool} → a ≡ x → b ≡ y → (a && b) ≡ (x && y)
-and_both {a} {b} {x} {y} e f = ap (λ (z : Bool). z && b) e ∙ ap (λ (z : Bool). x && z) f
+and_both {a} {b} {x} {y} e f = cc
 
-pub and_group : (a b c : Bool) → ((a && b) && c) ≡ (a && (b && c))
-and_group true b c = refl
-and_group false b c = refl
+or_both : {a b x y : Bool} → a ≡ x → b ≡ y → (a || b) ≡ (x || y)
+or_both {a} {b} {x} {y} e f = cc
 
-pub elem_append : (i : ℕ) (xs ys : List ℕ) → elem i (xs ++ ys) ≡ (elem i xs || elem i ys)
-elem_append i [] ys = refl
-elem_append i (x ∷ xs) ys = ap (λ (b : Bool). eqb i x || b) (elem_append i xs ys) ∙ sym (or_group (eqb i x) (elem i xs) (elem i ys))
+not_or : (a b : Bool) → (not a && not b) ≡ not (a || b)
+not_or true b = refl
+not_or false b = refl
 
-pub none_append : (xs ys zs : List ℕ) → none_in (xs ++ ys) zs ≡ (none_in xs zs && none_in ys zs)
-none_append [] ys zs = refl
-none_append (x ∷ xs) ys zs = ap (λ (b : Bool). not (elem x zs) && b) (none_append xs ys zs) ∙ sym (and_group (not (elem x zs)) (none_in xs zs) (none_in ys zs))
-
-part_elem : (text : List ℕ) (i : ℕ) (h : code-part.Part) → elem i (part_ports (part text h)) ≡ part_has i h
-part_elem text i parts.Plain = refl
-part_elem text i (parts.Calls cs rs) = refl
-part_elem text i (parts.Tests e) = refl
-part_elem text i (parts.Loops e) = refl
-part_elem text i (parts.Tries n) = refl
-part_elem text i (parts.Takes j c) = or_false (eqb i j)
+-- a test of some port of a block
+part_is : (t : ℕ → Bool) (text : List ℕ) (h : code-part.Part) → list_any t (part_ports (part text h)) ≡ part_any t h
+part_is t text parts.Plain = refl
+part_is t text (parts.Calls cs rs) = refl
+part_is t text (parts.Tests e) = refl
+part_is t text (parts.Loops e) = refl
+part_is t text (parts.Tries n) = refl
+part_is t text (parts.Takes i c) = or-false (t i)
 
 mutual
-  node_elem : (text : List ℕ) (i : ℕ) (u : code-node.Node) → elem i (node_ports (node text u)) ≡ node_has i u
-  node_elem text i (tree.One at ns s) = refl
-  node_elem text i (tree.Throws at n) = refl
-  node_elem text i (tree.Two' at ns h p a q b) =
-      elem_append i (part_ports (part text h)) (ports (nodes text a) ++ ports (nodes text b))
-      ∙ or_both (part_elem text i h) (elem_append i (ports (nodes text a)) (ports (nodes text b)) ∙ or_both (nodes_elem text i a) (nodes_elem text i b))
-  node_elem text i (tree.Par' at ns p bs) = branches_elem text i bs
+  node_is : (t : ℕ → Bool) (text : List ℕ) (u : code-node.Node) → list_any t (node_ports (node text u)) ≡ node_any t u
+  node_is t text (tree.One at ns s) = refl
+  node_is t text (tree.Throws at n) = refl
+  node_is t text (tree.Two' at ns h p a q b) =
+      list_any-append t (part_ports (part text h)) (ports (nodes text a) ++ ports (nodes text b))
+      ∙ or_both (part_is t text h) (list_any-append t (ports (nodes text a)) (ports (nodes text b)) ∙ or_both (nodes_is t text a) (nodes_is t text b))
+  node_is t text (tree.Par' at ns p bs) = branches_is t text bs
 
-  nodes_elem : (text : List ℕ) (i : ℕ) (us : code-nodes.Nodes) → elem i (ports (nodes text us)) ≡ nodes_have i us
-  nodes_elem text i tree.Nil = refl
-  nodes_elem text i (tree.Seq' p u q us) = elem_append i (node_ports (node text u)) (ports (nodes text us)) ∙ or_both (node_elem text i u) (nodes_elem text i us)
+  nodes_is : (t : ℕ → Bool) (text : List ℕ) (us : code-nodes.Nodes) → list_any t (ports (nodes text us)) ≡ nodes_any t us
+  nodes_is t text tree.Nil = refl
+  nodes_is t text (tree.Seq' p u q us) = list_any-append t (node_ports (node text u)) (ports (nodes text us)) ∙ or_both (node_is t text u) (nodes_is t text us)
 
-  branches_elem : (text : List ℕ) (i : ℕ) (bs : code-branches.Branches) → elem i (branch_ports (branches text bs)) ≡ branches_have i bs
-  branches_elem text i tree.Last = refl
-  branches_elem text i (tree.Also' gs p us q bs) =
-      elem_append i (ports (nodes text us)) (branch_ports (branches text bs)) ∙ or_both (nodes_elem text i us) (branches_elem text i bs)
+  branches_is : (t : ℕ → Bool) (text : List ℕ) (bs : code-branches.Branches) → list_any t (branch_ports (branches text bs)) ≡ branches_any t bs
+  branches_is t text tree.Last = refl
+  branches_is t text (tree.Also' gs p us q bs) =
+      list_any-append t (ports (nodes text us)) (branch_ports (branches text bs)) ∙ or_both (nodes_is t text us) (branches_is t text bs)
 
-part_none : (text : List ℕ) (h : code-part.Part) (vs : code-nodes.Nodes) → none_in (part_ports (part text h)) (ports (nodes text vs)) ≡ part_clear h vs
-part_none text parts.Plain vs = refl
-part_none text (parts.Calls cs rs) vs = refl
-part_none text (parts.Tests e) vs = refl
-part_none text (parts.Loops e) vs = refl
-part_none text (parts.Tries n) vs = refl
-part_none text (parts.Takes j c) vs = and_true (not (elem j (ports (nodes text vs)))) ∙ ap not (nodes_elem text j vs)
+elem_is : (i : ℕ) (xs : List ℕ) → elem i xs ≡ list_any (λ (j : ℕ). i == j) xs
+elem_is i [] = refl
+elem_is i (x ∷ xs) = ap (λ (b : Bool). (i == x) || b) (elem_is i xs)
 
-mutual
-  node_none : (text : List ℕ) (u : code-node.Node) (vs : code-nodes.Nodes) → none_in (node_ports (node text u)) (ports (nodes text vs)) ≡ node_clear u vs
-  node_none text (tree.One at ns s) vs = refl
-  node_none text (tree.Throws at n) vs = refl
-  node_none text (tree.Two' at ns h p a q b) vs =
-      none_append (part_ports (part text h)) (ports (nodes text a) ++ ports (nodes text b)) (ports (nodes text vs))
-      ∙ and_both (part_none text h vs) (none_append (ports (nodes text a)) (ports (nodes text b)) (ports (nodes text vs)) ∙ and_both (nodes_none text a vs) (nodes_none text b vs))
-  node_none text (tree.Par' at ns p bs) vs = branches_none text bs vs
+none_is : (t : ℕ → Bool) (xs ys : List ℕ) → ((i : ℕ) → elem i ys ≡ t i) → none_in xs ys ≡ not (list_any t xs)
+none_is t [] ys h = refl
+none_is t (x ∷ xs) ys h = and_both (ap not (h x)) (none_is t xs ys h) ∙ not_or (t x) (list_any t xs)
 
-  nodes_none : (text : List ℕ) (us vs : code-nodes.Nodes) → none_in (ports (nodes text us)) (ports (nodes text vs)) ≡ nodes_clear us vs
-  nodes_none text tree.Nil vs = refl
-  nodes_none text (tree.Seq' p u q us) vs =
-      none_append (node_ports (node text u)) (ports (nodes text us)) (ports (nodes text vs)) ∙ and_both (node_none text u vs) (nodes_none text us vs)
+clear_is : (text : List ℕ) (us vs : code-nodes.Nodes) → none_in (ports (nodes text us)) (ports (nodes text vs)) ≡ nodes_clear us vs
+clear_is text us vs =
+    none_is (λ (i : ℕ). nodes_have i vs) (ports (nodes text us)) (ports (nodes text vs)) (λ i. elem_is i (ports (nodes text vs)) ∙ nodes_is (λ (j : ℕ). i == j) text vs)
+    ∙ ap not (nodes_is (λ (i : ℕ). nodes_have i vs) text us)
 
-  branches_none : (text : List ℕ) (bs : code-branches.Branches) (vs : code-nodes.Nodes) → none_in (branch_ports (branches text bs)) (ports (nodes text vs)) ≡ branches_clear bs vs
-  branches_none text tree.Last vs = refl
-  branches_none text (tree.Also' gs p us q bs) vs =
-      none_append (ports (nodes text us)) (branch_ports (branches text bs)) (ports (nodes text vs)) ∙ and_both (nodes_none text us vs) (branches_none text bs vs)
+-- the two tests of every two branches
+abbrev pub clear_test : Test
+clear_test g us h vs = nodes_clear us vs
 
-any_none : (text : List ℕ) (us : code-nodes.Nodes) (bs : code-branches.Branches) → none_in_any (ports (nodes text us)) (all_ports (branches text bs)) ≡ clear_of_all us bs
-any_none text us tree.Last = refl
-any_none text us (tree.Also' gs p vs q bs) = and_both (nodes_none text us vs) (any_none text us bs)
+abbrev pub write_test : List ℕ → Test
+write_test text g us h vs = none_among (writes (gots text g)) (writes (gots text h))
 
-pub all_none : (text : List ℕ) (bs : code-branches.Branches) → apart (all_ports (branches text bs)) ≡ all_clear bs
-all_none text tree.Last = refl
-all_none text (tree.Also' gs p us q bs) = and_both (any_none text us bs) (all_none text bs)
+clear_later : (text : List ℕ) (g : List code_got.Got) (us : code-nodes.Nodes) (bs : code-branches.Branches) → none_in_any (ports (nodes text us)) (all_ports (branches text bs)) ≡ with_later clear_test g us bs
+clear_later text g us tree.Last = refl
+clear_later text g us (tree.Also' h p vs q bs) = and_both (clear_is text us vs) (clear_later text g us bs)
+
+pub clear_pairs : (text : List ℕ) (bs : code-branches.Branches) → apart (all_ports (branches text bs)) ≡ pairwise clear_test bs
+clear_pairs text tree.Last = refl
+clear_pairs text (tree.Also' g p us q bs) = and_both (clear_later text (vec_items g) us bs) (clear_pairs text bs)
+
+write_later : (text : List ℕ) (g : List code_got.Got) (us : code-nodes.Nodes) (bs : code-branches.Branches)
+    → none_among_any (writes (gots text g)) (all_writes (branches text bs)) ≡ with_later (write_test text) g us bs
+write_later text g us tree.Last = refl
+write_later text g us (tree.Also' h p vs q bs) = ap (λ (b : Bool). write_test text g us (vec_items h) vs && b) (write_later text g us bs)
+
+pub write_pairs : (text : List ℕ) (bs : code-branches.Branches) → names_apart (all_writes (branches text bs)) ≡ pairwise (write_test text) bs
+write_pairs text tree.Last = refl
+write_pairs text (tree.Also' g p us q bs) = and_both (write_later text (vec_items g) us bs) (write_pairs text bs)

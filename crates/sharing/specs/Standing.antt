@@ -1,64 +1,65 @@
--- The ports of the code's own tree: whether one stands in a block, and whether two blocks have none in common.
--- It says again, without lists, what the stage says of the ports of a par.
-use Rattle.std.specs.Prelude.{ℕ, Bool, true, false, not, ◌&&◌, ◌||◌, ◌==◌}
+-- The code's own tree: whether a port stands in a block, whether two blocks have none in common, and a test of every two branches.
+-- It says again, without lists, what the stage says of a par.
+use Rattle.std.specs.Prelude.{◌≡◌, ℕ, Bool, true, false, not, ◌&&◌, ◌||◌, List, ◌==◌, vec_items}
+use denote.Ref.{Bor}
 use Rattle.unfold.specs.declared.nodes.Part as code-part
 use Rattle.unfold.specs.declared.nodes.Part.TheVariants as parts
+use Rattle.unfold.specs.declared.nodes.Got as code_got
 use Rattle.unfold.specs.declared.nodes.Node as code-node
 use Rattle.unfold.specs.declared.nodes.Nodes as code-nodes
 use Rattle.unfold.specs.declared.nodes.Branches as code-branches
 use Rattle.unfold.specs.declared.nodes.Branches.TheVariants as tree
 
-abbrev pub part_has : ℕ → code-part.Part → Bool
-part_has i parts.Plain = false
-part_has i (parts.Calls cs rs) = false
-part_has i (parts.Tests e) = false
-part_has i (parts.Loops e) = false
-part_has i (parts.Tries n) = false
-part_has i (parts.Takes j c) = i == j
+-- what answers as t does
+abbrev pub Tells : (ℕ → Bool → Type 0) → (ℕ → Bool) → Type 0
+Tells P t = (i : ℕ) (r : Bool) → P i r → r ≡ t i
+
+-- whether a port that stands in a block passes a test
+abbrev pub part_any : (ℕ → Bool) → code-part.Part → Bool
+part_any t parts.Plain = false
+part_any t (parts.Calls cs rs) = false
+part_any t (parts.Tests e) = false
+part_any t (parts.Loops e) = false
+part_any t (parts.Tries n) = false
+part_any t (parts.Takes i c) = t i
 
 abbrev mutual
-  pub node_has : ℕ → code-node.Node → Bool
-  node_has i (tree.One at ns s) = false
-  node_has i (tree.Throws at n) = false
-  node_has i (tree.Two' at ns h p a q b) = part_has i h || (nodes_have i a || nodes_have i b)
-  node_has i (tree.Par' at ns p bs) = branches_have i bs
+  pub node_any : (ℕ → Bool) → code-node.Node → Bool
+  node_any t (tree.One at ns s) = false
+  node_any t (tree.Throws at n) = false
+  node_any t (tree.Two' at ns h p a q b) = part_any t h || (nodes_any t a || nodes_any t b)
+  node_any t (tree.Par' at ns p bs) = branches_any t bs
 
-  pub nodes_have : ℕ → code-nodes.Nodes → Bool
-  nodes_have i tree.Nil = false
-  nodes_have i (tree.Seq' p u q us) = node_has i u || nodes_have i us
+  pub nodes_any : (ℕ → Bool) → code-nodes.Nodes → Bool
+  nodes_any t tree.Nil = false
+  nodes_any t (tree.Seq' p u q us) = node_any t u || nodes_any t us
 
-  pub branches_have : ℕ → code-branches.Branches → Bool
-  branches_have i tree.Last = false
-  branches_have i (tree.Also' gs p us q bs) = nodes_have i us || branches_have i bs
+  pub branches_any : (ℕ → Bool) → code-branches.Branches → Bool
+  branches_any t tree.Last = false
+  branches_any t (tree.Also' gs p us q bs) = nodes_any t us || branches_any t bs
 
-abbrev pub part_clear : code-part.Part → code-nodes.Nodes → Bool
-part_clear parts.Plain vs = true
-part_clear (parts.Calls cs rs) vs = true
-part_clear (parts.Tests e) vs = true
-part_clear (parts.Loops e) vs = true
-part_clear (parts.Tries n) vs = true
-part_clear (parts.Takes j c) vs = not (nodes_have j vs)
+-- whether a port stands in a block
+abbrev pub nodes_have : ℕ → code-nodes.Nodes → Bool
+nodes_have i us = nodes_any (λ j. i == j) us
 
-abbrev mutual
-  pub node_clear : code-node.Node → code-nodes.Nodes → Bool
-  node_clear (tree.One at ns s) vs = true
-  node_clear (tree.Throws at n) vs = true
-  node_clear (tree.Two' at ns h p a q b) vs = part_clear h vs && (nodes_clear a vs && nodes_clear b vs)
-  node_clear (tree.Par' at ns p bs) vs = branches_clear bs vs
+-- whether no port of a block stands in another
+abbrev pub nodes_clear : code-nodes.Nodes → code-nodes.Nodes → Bool
+nodes_clear us vs = not (nodes_any (λ i. nodes_have i vs) us)
 
-  pub nodes_clear : code-nodes.Nodes → code-nodes.Nodes → Bool
-  nodes_clear tree.Nil vs = true
-  nodes_clear (tree.Seq' p u q us) vs = node_clear u vs && nodes_clear us vs
+-- a test of two branches, each with the variables that it got and its block
+abbrev pub Test : Type 0
+Test = List code_got.Got → code-nodes.Nodes → List code_got.Got → code-nodes.Nodes → Bool
 
-  pub branches_clear : code-branches.Branches → code-nodes.Nodes → Bool
-  branches_clear tree.Last vs = true
-  branches_clear (tree.Also' gs p us q bs) vs = nodes_clear us vs && branches_clear bs vs
+-- what answers as t does
+abbrev pub TellsApart : (Bor (List code_got.Got) → Bor code-nodes.Nodes → Bor (List code_got.Got) → Bor code-nodes.Nodes → Bool → Type 0) → Test → Type 0
+TellsApart P t =
+    (g h : Bor (List code_got.Got)) (us vs : Bor code-nodes.Nodes) (r : Bool) → P g us h vs r → r ≡ t g.now us.now h.now vs.now
 
-abbrev pub clear_of_all : code-nodes.Nodes → code-branches.Branches → Bool
-clear_of_all us tree.Last = true
-clear_of_all us (tree.Also' gs p vs q bs) = nodes_clear us vs && clear_of_all us bs
+abbrev pub with_later : Test → List code_got.Got → code-nodes.Nodes → code-branches.Branches → Bool
+with_later t g us tree.Last = true
+with_later t g us (tree.Also' h p vs q bs) = t g us (vec_items h) vs && with_later t g us bs
 
--- no port stands in two branches
-abbrev pub all_clear : code-branches.Branches → Bool
-all_clear tree.Last = true
-all_clear (tree.Also' gs p us q bs) = clear_of_all us bs && all_clear bs
+-- every two branches pass it
+abbrev pub pairwise : Test → code-branches.Branches → Bool
+pairwise t tree.Last = true
+pairwise t (tree.Also' g p us q bs) = with_later t (vec_items g) us bs && pairwise t bs

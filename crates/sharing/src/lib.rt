@@ -1,12 +1,11 @@
 // The fifth stage of clearing: what branches of a par share, variables given twice by reference, and throws that no try catches.
 #![tactic(auto)]
 
+mod apart;
 mod fairness;
-mod part;
 mod ports;
 mod references;
 mod stage;
-mod tries;
 mod writes;
 
 pub use crate::fairness::passes_exactly;

@@ -1,132 +1,84 @@
 // The ports that stand in the branches of a par.
-ghost use Rattle.std.specs.Prelude.{◌≡◌, ℕ, List};
+ghost use Rattle.std.specs.Prelude.{◌≡◌, ℕ, Bool, List, not};
 ghost use Rattle.reader.specs.declared.fault.Cause.TheVariants.{PortTwice};
 ghost use Rattle.reader.specs.Faults.{must};
 ghost use Rattle.unfold.specs.Sharing.{apart, all_ports};
 ghost use Rattle.unfold.specs.Views.{branches as meant};
-ghost use Rattle.sharing.specs.Standing.{part_has, node_has, nodes_have, branches_have, part_clear, node_clear, nodes_clear, branches_clear, clear_of_all, all_clear};
+ghost use Rattle.sharing.specs.Standing.{Tells, part_any, node_any, nodes_any, branches_any, nodes_have, nodes_clear};
 
-use reader::fault::{Cause, Fault};
-use unfold::nodes::{Branches, Node, Nodes, Part};
+use crate::apart::are_apart;
+use reader::fault::{Cause, Fault, must};
+use unfold::nodes::{Branches, Got, Node, Nodes, Part};
 
-// Whether a port stands in what is before the blocks of a statement.
-fn part_has(part: &Part, port: usize) -> bool
-    ensures { result ≡ part_has port part.now }
+// Whether the port before the blocks of a statement passes a test.
+fn part_any<F: Fn(usize) -> bool>(part: &Part, test: &F) -> bool
+    requires { F.IsAlwaysCallable test.now }
+    ensures { (t : ℕ → Bool) → Tells (F.post test.now) t → result ≡ part_any t part.now }
 {
     match part {
-        Part::Takes(i, _) => port == *i,
+        Part::Takes(i, _) => test(*i),
         Part::Plain | Part::Calls(_, _) | Part::Tests(_) | Part::Loops(_) | Part::Tries(_) => false,
     }
 }
 
-#[cycle(branches_have_node_has_nodes_have)]
-fn node_has(u: &Node, port: usize) -> bool
-    ensures { result ≡ node_has port u.now }
+#[cycle(branches_any_node_any_nodes_any)]
+fn node_any<F: Fn(usize) -> bool>(u: &Node, test: &F) -> bool
+    requires { F.IsAlwaysCallable test.now }
+    ensures { (t : ℕ → Bool) → Tells (F.post test.now) t → result ≡ node_any t u.now }
 {
     match u {
-        Node::One(_, _, _) => false,
-        Node::Throws(_, _) => false,
+        Node::One(_, _, _) | Node::Throws(_, _) => false,
         Node::Two(_, _, part, first, second) => {
-            part_has(part, port) || nodes_have(first, port) || nodes_have(second, port)
+            part_any(part, test) || nodes_any(first, test) || nodes_any(second, test)
         }
-        Node::Par(_, _, branches) => branches_have(branches, port),
+        Node::Par(_, _, branches) => branches_any(branches, test),
     }
 }
 
-// Whether a port stands in a block, those of called procedures and of statements never reached too.
-#[cycle(branches_have_node_has_nodes_have)]
-fn nodes_have(us: &Nodes, port: usize) -> bool
-    ensures { result ≡ nodes_have port us.now }
+// Whether a port that stands in a block passes a test, those of called procedures and of statements never reached too.
+#[cycle(branches_any_node_any_nodes_any)]
+fn nodes_any<F: Fn(usize) -> bool>(us: &Nodes, test: &F) -> bool
+    requires { F.IsAlwaysCallable test.now }
+    ensures { (t : ℕ → Bool) → Tells (F.post test.now) t → result ≡ nodes_any t us.now }
 {
     match us {
         Nodes::Nil => false,
-        Nodes::Seq(u, rest) => node_has(u, port) || nodes_have(rest, port),
+        Nodes::Seq(u, rest) => node_any(u, test) || nodes_any(rest, test),
     }
 }
 
-#[cycle(branches_have_node_has_nodes_have)]
-fn branches_have(branches: &Branches, port: usize) -> bool
-    ensures { result ≡ branches_have port branches.now }
+#[cycle(branches_any_node_any_nodes_any)]
+fn branches_any<F: Fn(usize) -> bool>(branches: &Branches, test: &F) -> bool
+    requires { F.IsAlwaysCallable test.now }
+    ensures { (t : ℕ → Bool) → Tells (F.post test.now) t → result ≡ branches_any t branches.now }
 {
     match branches {
         Branches::Last => false,
-        Branches::Also(_, us, rest) => nodes_have(us, port) || branches_have(rest, port),
+        Branches::Also(_, us, rest) => nodes_any(us, test) || branches_any(rest, test),
     }
 }
 
-fn part_clear(part: &Part, others: &Nodes) -> bool
-    ensures { result ≡ part_clear part.now others.now }
+// Whether a port stands in a block.
+fn nodes_have(us: &Nodes, port: usize) -> bool
+    ensures { result ≡ nodes_have port us.now }
 {
-    match part {
-        Part::Takes(i, _) => !nodes_have(others, *i),
-        Part::Plain | Part::Calls(_, _) | Part::Tests(_) | Part::Loops(_) | Part::Tries(_) => true,
-    }
-}
-
-#[cycle(branches_clear_node_clear_nodes_clear)]
-fn node_clear(u: &Node, others: &Nodes) -> bool
-    ensures { result ≡ node_clear u.now others.now }
-{
-    match u {
-        Node::One(_, _, _) => true,
-        Node::Throws(_, _) => true,
-        Node::Two(_, _, part, first, second) => {
-            part_clear(part, others) && nodes_clear(first, others) && nodes_clear(second, others)
-        }
-        Node::Par(_, _, branches) => branches_clear(branches, others),
-    }
+    nodes_any(us, &|i| port == i)
 }
 
 // Whether no port of a block stands in another.
-#[cycle(branches_clear_node_clear_nodes_clear)]
 fn nodes_clear(us: &Nodes, others: &Nodes) -> bool
     ensures { result ≡ nodes_clear us.now others.now }
 {
-    match us {
-        Nodes::Nil => true,
-        Nodes::Seq(u, rest) => node_clear(u, others) && nodes_clear(rest, others),
-    }
-}
-
-#[cycle(branches_clear_node_clear_nodes_clear)]
-fn branches_clear(branches: &Branches, others: &Nodes) -> bool
-    ensures { result ≡ branches_clear branches.now others.now }
-{
-    match branches {
-        Branches::Last => true,
-        Branches::Also(_, us, rest) => nodes_clear(us, others) && branches_clear(rest, others),
-    }
-}
-
-// Whether no port of a branch stands in any of the branches after it.
-fn clear_of_all(us: &Nodes, after: &Branches) -> bool
-    ensures { result ≡ clear_of_all us.now after.now }
-{
-    match after {
-        Branches::Last => true,
-        Branches::Also(_, others, rest) => nodes_clear(us, others) && clear_of_all(us, rest),
-    }
-}
-
-fn all_clear(branches: &Branches) -> bool
-    ensures { result ≡ all_clear branches.now }
-{
-    match branches {
-        Branches::Last => true,
-        Branches::Also(_, us, rest) => clear_of_all(us, rest) && all_clear(rest),
-    }
+    !nodes_any(us, &|i| nodes_have(others, i))
 }
 
 // No port stands in two branches of a par.
 pub fn check_ports(at: usize, branches: &Branches) -> Result<(), Fault>
     ensures { (text : List ℕ) → result ≡ must (apart (all_ports (meant text branches.now))) PortTwice at }
 {
-    if all_clear(branches) {
-        Ok(())
-    } else {
-        Err(Fault {
-            cause: Cause::PortTwice,
-            offset: at,
-        })
-    }
+    let is_apart = are_apart(
+        branches,
+        &|_gots: &[Got], us: &Nodes, _others: &[Got], vs: &Nodes| { nodes_clear(us, vs) },
+    );
+    must(is_apart, Cause::PortTwice, at)
 }

@@ -1,13 +1,9 @@
 -- Rows read off the tables.
-use Rattle.std.proofs.Common.{◌≡◌, ℕ, zero, suc, ◌<◌, ◌≤◌, Bool, true, false, cond, eqb, List, [], ◌∷◌, length, get_or, vec_items, sym, refl, ap, arith}
-use mathlib.Core.Option.{none}
-use Rattle.std.proofs.lemmas.List.{get_or_read}
-use Rattle.rules.specs.Programs.{awaits, goto, throw}
-use Rattle.tables.specs.declared.stmt.Stmt.{Stmt}
-use Rattle.tables.specs.declared.stmt.Stmt.TheVariants.{End, Var, Set, Know, Next, Call, Test, Try, Take, Par, Goto, Throw}
+use Rattle.std.proofs.Common.{◌≡◌, ℕ, zero, suc, ◌<◌, ◌≤◌, List, [], ◌∷◌, length, get_or, vec_items, Bor, sym, refl, ap, arith}
+use Rattle.std.specs.Prelude.{Option, Some, None, MatchOption}
+use Rattle.std.specs.Slice.{IsItemAt}
 use Rattle.tables.specs.declared.rows.Point.{Point}
-use Rattle.tables.specs.declared.rows.Got.{Got}
-use Rattle.tables.specs.Stms.{stm, RowAt, PastRows, got_is, no_got}
+use Rattle.tables.specs.Stms.{stm, RowAt, PastRows}
 
 pub read : (ps : List Point) (i : ℕ) (p : Point) → i < length ps → p ≡ get_or ps i p → RowAt ps i p
 read [] i p h e = absurd (omega arith)
@@ -29,24 +25,7 @@ past (x ∷ ps) (suc i) h =
     let r = past ps i (omega arith) in
     record { stm_is = r.stm_is; after_is = r.after_is; catches_is = r.catches_is; offset_is = r.offset_is }
 
--- a statement other than a next awaits nothing
-pub not_next : (q : ℕ) (s : Stmt) → ((c h : ℕ) → s ≡ Next c h → ⊥) → awaits (stm q s) ≡ none
-not_next q End n = refl
-not_next q (Var c) n = refl
-not_next q (Set c e) n = refl
-not_next q Know n = refl
-not_next q (Next c h) n = absurd (n c h refl)
-not_next q (Call cs y) n = refl
-not_next q (Test e y z) n = refl
-not_next q (Try y) n = refl
-not_next q (Take i c z) n = refl
-not_next q (Par bs cs) n = refl
-not_next q (Goto y) n = refl
-not_next q (Throw g k y) n = either (eqb g q)
-  where
-    either : (b : Bool) → awaits (cond b (goto y) (throw g k)) ≡ none
-    either true = refl
-    either false = refl
-
-pub got_at : (gs : List Got) (i : ℕ) (g : Got) (q h : ℕ) → i < length gs → g ≡ get_or gs i g → got_is (get_or gs i no_got) q h ≡ got_is g q h
-got_at gs i g q h l e = ap (λ (v : Got). got_is v q h) (sym (get_or_read gs i g l e no_got))
+-- a look at a row
+pub looked : (ps : List Point) (i : ℕ) (r : Option (Bor Point)) → IsItemAt ps i r → MatchOption r (PastRows ps i) (λ p. RowAt ps i p.now)
+looked ps i None h = past ps i h.3
+looked ps i (Some p) h = read ps i p.now h.3.0 h.1

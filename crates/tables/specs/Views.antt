@@ -1,6 +1,6 @@
 -- The table and the moves of the rules that a program's tables and moves stand for.
 use Rattle.std.proofs.Math.Option.{Option, some, none}
-use Rattle.std.specs.Prelude.{ℕ, Some, None, vec_items, vec_len, slice_index_or}
+use Rattle.std.specs.Prelude.{◌≡◌, ℕ, ◌<◌, Result, MatchResult, Some, None, vec_items, vec_len, slice_index_or}
 use Rattle.std.specs.declared.option.Option as std
 use Rattle.rules.specs.Programs.{Table}
 use Rattle.rules.specs.States.{Move, step, close, meet, poison}
@@ -9,6 +9,7 @@ use Rattle.tables.specs.declared.moves.Move.TheVariants.{Step, Close, Meet, Pois
 use Rattle.rules.specs.Names.{Name}
 use Rattle.tables.specs.declared.moves.MoveKind as kinds
 use Rattle.tables.specs.declared.moves.MoveName.{MoveName}
+use Rattle.tables.specs.declared.moves.UnknownKind.{UnknownKind}
 use Rattle.tables.specs.declared.tables.Tables.{Tables}
 use Rattle.tables.specs.Fit.{no_place}
 use Rattle.tables.specs.Stms.{stm_at, after_at, place_at, catches_at, has_got, no_cell}
@@ -54,6 +55,10 @@ kind_number kinds.TheVariants.Step = 0
 kind_number kinds.TheVariants.Close = 1
 kind_number kinds.TheVariants.Meet = 2
 kind_number kinds.TheVariants.Poison = 3
+
+-- The kind with this number, or the number, which no kind has.
+abbrev pub KindOf : ℕ → Result kinds.MoveKind UnknownKind → Type 0
+KindOf n r = MatchResult r (λ k. kind_number k ≡ n) (λ e. (e.0 ≡ n) × (3 < n))
 
 abbrev pub name : MoveName → Name
 name n = record { kind = kind_number n.kind; first = n.first; second = n.second }

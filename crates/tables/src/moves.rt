@@ -1,7 +1,7 @@
 // The moves of a board, and their names.
 
 // A step or a close of a place, a meet of a home, a poisoning of a place for a home.
-#[derive(Clone, Copy)]
+#[derive(Clone, Copy, Debug, PartialEq, Eq)]
 pub enum Move {
     Step(u16),
     Close(u16),
@@ -10,7 +10,7 @@ pub enum Move {
 }
 
 // The kind of a move, with its number.
-#[derive(Clone, Copy, PartialEq, Eq, Debug)]
+#[derive(Clone, Copy, Debug, PartialEq, Eq)]
 pub enum MoveKind {
     Step = 0,
     Close = 1,
@@ -18,8 +18,12 @@ pub enum MoveKind {
     Poison = 3,
 }
 
+// A number that no kind has.
+#[derive(Clone, Copy, Debug, PartialEq, Eq)]
+pub struct UnknownKind(pub u32);
+
 // The name of a move: its kind and two numbers, the second 0 unless the kind is 3.
-#[derive(Clone, Copy)]
+#[derive(Clone, Copy, Debug, PartialEq, Eq)]
 pub struct MoveName {
     pub kind: MoveKind,
     pub first: u16,

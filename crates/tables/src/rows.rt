@@ -13,7 +13,7 @@ pub struct Point {
 }
 
 // A place: its parent, the par that it is a branch of, and its first point. Place 0 is the main block.
-#[derive(Clone, Copy)]
+#[derive(Clone, Copy, Debug, Default, PartialEq, Eq)]
 pub struct Place {
     pub parent: u16,
     pub under: u16,
@@ -21,7 +21,7 @@ pub struct Place {
 }
 
 // A cell: its home, the place that declared it, and where its recorded name stands in the text.
-#[derive(Clone, Copy)]
+#[derive(Clone, Copy, Debug, Default, PartialEq, Eq)]
 pub struct Cell {
     pub home: u16,
     pub declarer: u16,
@@ -30,7 +30,7 @@ pub struct Cell {
 }
 
 // A place got a variable of a home at its start.
-#[derive(Clone, Copy)]
+#[derive(Clone, Copy, Debug, PartialEq, Eq)]
 pub struct Got {
     pub place: u16,
     pub home: u16,

@@ -1,59 +1,23 @@
 -- Calls and pars, as the code makes them.
-use Rattle.std.proofs.Common.{◌≡◌, ℕ, suc, ◌+◌, ◌-◌, ◌^◌, ◌≤◌, min, Bool, true, false, ◌&&◌, leb, List, [], ◌∷◌, length, get_or, take, Some, None, Ok, Err, vec_items, Option, Result, sym, refl, ap, ◌∙◌, subst, arith, leb→le, length-append}
+use Rattle.std.proofs.Common.{◌≡◌, ℕ, suc, ◌+◌, ◌-◌, ◌^◌, ◌≤◌, min, Bool, true, false, ◌&&◌, leb, List, [], ◌∷◌, length, Ok, Result, sym, refl, ap, ◌∙◌, subst, arith, leb→le}
 use mathlib.Core.Path.{fun_ext}
 use native.Mathlib.Decide.{dec_lt}
 use Rattle.lemmas.proofs.Tests.{T_false}
-use Rattle.reader.specs.declared.fault.Cause.TheVariants.{NotVisible, OverLimit}
+use Rattle.reader.specs.declared.fault.Cause.TheVariants.{OverLimit}
 use Rattle.reader.specs.declared.fault.Error.{Error}
-use Rattle.reader.specs.declared.fault.Error.TheVariants.{Refused, OutOfMemory}
-use Rattle.reader.specs.Faults.{Answer, Meets, refuse, must, ◌>>=◌}
-use Rattle.grammar.specs.declared.tree.Param as code-param
-use Rattle.grammar.specs.declared.tree.Proc as code-proc
-use Rattle.grammar.specs.Trees.{Name, Stm, Call, Par, Block, Blocks, Also, Proc}
-use Rattle.grammar.specs.Views.{params, block}
+use Rattle.reader.specs.Faults.{Answer, must, ◌>>=◌}
+use Rattle.grammar.specs.Trees.{Stm, Par, Blocks, Proc}
 use Rattle.names.specs.Naming.{Reading}
-use Rattle.names.specs.Scopes.{ended}
 use Rattle.unfold.specs.declared.nodes.New as code-new
-use Rattle.unfold.specs.Unfolded.{New, Got, Node, calls, two, par, nil}
-use Rattle.unfold.specs.Scopes.{Env, found}
-use Rattle.unfold.specs.Variables.{ParamsOf, uses_block, gets, got_new, all_get, all_new}
-use Rattle.unfold.specs.Unfolding.{Count, Callee, brings, branch_count, callees, params_of, passes, unfold_simple, unfold_stm, unfold_blocks}
-use Rattle.unfold.specs.Calls.{FoundAt, entered, parted}
+use Rattle.unfold.specs.Unfolded.{New, Got, Node, par}
+use Rattle.unfold.specs.Scopes.{Env}
+use Rattle.unfold.specs.Variables.{ParamsOf, all_get, all_new}
+use Rattle.unfold.specs.Unfolding.{Count, brings, branch_count, callees, params_of, unfold_stm, unfold_blocks}
+use Rattle.unfold.specs.Calls.{parted}
 use Rattle.unfold.specs.Occurrences.{visible_params}
 use Rattle.unfold.specs.Views.{news, Gives}
 use Rattle.unfold.proofs.Adding.{visible_is}
 use Rattle.unfold.proofs.Gains.{all_new_any}
-
--- ---- calls
-
-after_found : Reading → Env → Count → ℕ → List Name → Callee → Answer (Node × Count)
-after_found l v n at as' c =
-    passes v c.params as' n.cells >>= (λ p.
-    brings n 0 (length p.news) at >>= (λ m.
-    c.body p.env m >>= (λ r. Ok (two at p.news (calls p.copies p.refs) r.0 nil, r.1))))
-
-pub call_step : (l : Reading) (text : List ℕ) (qs : List code-proc.Proc) (v : Env) (n : Count) (at : ℕ) (x : Name) (as' : List Name) (i : ℕ) (q : code-proc.Proc)
-    → FoundAt text qs x.text (Some i) → q ≡ get_or qs i q
-    → unfold_simple l (callees l (ended text qs)) v n at (Call x as') ≡ entered l (ended text (take i qs)) (params text (vec_items q.params)) (block text q.body) v n at as'
-unfolding after_found
-call_step l text qs v n at x as' i q h e = ap (λ (o : Option Callee). found NotVisible at o >>= after_found l v n at as') (h.1 l q e)
-
-pub call_nothing : (l : Reading) (text : List ℕ) (qs : List code-proc.Proc) (v : Env) (n : Count) (at : ℕ) (x : Name) (as' : List Name)
-    → FoundAt text qs x.text None → unfold_simple l (callees l (ended text qs)) v n at (Call x as') ≡ refuse NotVisible at
-unfolding after_found
-call_nothing l text qs v n at x as' h = ap (λ (o : Option Callee). found NotVisible at o >>= after_found l v n at as') (h l)
-
--- a call that is entered, with those that the procedure sees and its parameters as the code has them
-pub call_gives : {V : Type 0} (f : V → Node × Count) (r : Result V Error) (l : Reading) (text : List ℕ) (qs rs : List code-proc.Proc) (v : Env) (n : Count) (at : ℕ) (x : Name) (as' : List Name) (i : ℕ)
-    (q : code-proc.Proc) (ps : List code-param.Param) → FoundAt text qs x.text (Some i) → q ≡ get_or qs i q → ps ≡ vec_items q.params → rs ≡ take i qs
-    → Gives f r (entered l (ended text rs) (params text ps) (block text q.body) v n at as') → Gives f r (unfold_simple l (callees l (ended text qs)) v n at (Call x as'))
-call_gives {V} f r l text qs rs v n at x as' i q ps h e p s g =
-    subst (λ (z : Answer (Node × Count)). Gives f r z)
-    (ap (λ (z : List code-proc.Proc). entered l (ended text z) (params text ps) (block text q.body) v n at as') s
-    ∙ ap (λ (z : List code-param.Param). entered l (ended text (take i qs)) (params text z) (block text q.body) v n at as') p
-    ∙ sym (call_step l text qs v n at x as' i q h e)) g
-
--- ---- pars
 
 over : (b : Bool) (a : Bool) → (a && (false && b)) ≡ false
 over b true = refl
@@ -98,21 +62,6 @@ par_step l ps v n at bs =
     ap (λ (g : ParamsOf). F (all_get g v bs n.cells) (all_new (all_get g v bs n.cells))) f
     ∙ ap (λ (ns : List New). F (all_get (visible_params ps) v bs n.cells) ns) (all_new_any (visible_params ps) v bs n.cells 0)
 
--- a par that fits: the new cells of the other branches are numbered after those of the first
-pub blocks_fit : (f : ParamsOf) (v : Env) (a : Block) (bs : Blocks) (first next : ℕ) (gs : List Got)
-    → first + length (all_new (all_get f v (Also a bs) first)) ≤ 128 → gs ≡ gets v (uses_block f a) (uses_block f a) [] first → next ≡ first + length (got_new gs)
-    → next + length (all_new (all_get f v bs next)) ≤ 128
-blocks_fit f v a bs first next gs h e k =
-    let g = gets v (uses_block f a) (uses_block f a) [] first in
-    let n = first + length (got_new g) in
-    let i : next ≡ n = k ∙ ap (λ (z : List Got). first + length (got_new z)) e in
-    let l = length-append (got_new g) (all_new (all_get f v bs n)) in
-    let j = ap (λ (z : ℕ). length (all_new (all_get f v bs z))) i in
-    omega arith
-
-pub also_fits : (f : ParamsOf) (v : Env) (a : Block) (bs : Blocks) (first : ℕ) → first + length (all_new (all_get f v (Also a bs) first)) ≤ 128 → first ≤ 128
-also_fits f v a bs first h = omega arith
-
 pub par_gives : {V : Type 0} (f : V → Node × Count) (r : Result V Error) (l : Reading) (ps : List Proc) (v : Env) (n : Count) (at : ℕ) (bs : Blocks) (s : Stm) → s ≡ Par at bs
     → Gives f r (parted l ps v n at bs) → Gives f r (unfold_stm l (callees l ps) v n s)
 par_gives {V} f r l ps v n at bs s e g =
@@ -125,8 +74,3 @@ par_fits n m k at f v bs ns b h e =
     let j = ap length e in
     let l = ap length (all_new_any f v bs n.cells 0) in
     omega arith
-
-pub gives_meets : {A V : Type 0} (f : V → A) (r : Result V Error) (d : Answer A) → Gives f r d → Meets (λ v a. f v ≡ a) r d
-gives_meets {A} {V} f (Ok v) d g = subst (λ (z : Answer A). Meets (λ (v : V) (a : A). f v ≡ a) (Ok v) z) (sym g) refl
-gives_meets {A} {V} f (Err (Refused x)) d g = subst (λ (z : Answer A). Meets (λ (v : V) (a : A). f v ≡ a) (Err (Refused x)) z) (sym g) refl
-gives_meets {A} {V} f (Err OutOfMemory) d g = tt

@@ -1,12 +1,14 @@
 -- What a branch gets, occurrence by occurrence.
-use Rattle.std.proofs.Common.{◌≡◌, ℕ, suc, ◌+◌, ◌<◌, ◌≤◌, Bool, true, false, cond, List, [], ◌∷◌, ◌++◌, length, get_or, drop, Some, None, Option, sym, refl, ap, ◌∙◌, subst, ap₂, append_assoc, append-nil, arith, length-append}
-use Rattle.std.proofs.lemmas.List.{at_drop_more, at_drop_all}
-use Rattle.reader.specs.Tokens.{among}
+use Rattle.std.proofs.Common.{◌≡◌, ℕ, suc, ◌+◌, ◌<◌, ◌≤◌, Bool, true, false, cond, ◌||◌, List, [], ◌∷◌, ◌++◌, length, map, filter, is_some, get_or, drop, Some, None, Ok, Err, Option, Result, sym, refl, ap, ◌∙◌, subst, ap₂, append_assoc, arith, length-append}
+use Rattle.std.proofs.lemmas.List.{at_drop_more, map-append}
+use Rattle.std.specs.List.{list_any}
+use Rattle.reader.specs.declared.fault.Error.{Error}
+use Rattle.reader.specs.Tokens.{same, among}
 use Rattle.grammar.specs.Trees.{Name, Block, Blocks, Last, Also}
 use Rattle.grammar.specs.Views.{name}
 use Rattle.grammar.specs.declared.tree.Name as code-name
 use Rattle.names.specs.Scopes.{scope}
-use Rattle.names.proofs.Stacks.{stacked_push}
+use Rattle.names.proofs.Stacks.{stacked_push, among_scope}
 use Rattle.unfold.specs.declared.nodes.Got as code_got
 use Rattle.unfold.specs.declared.nodes.New as code-new
 use Rattle.unfold.specs.declared.scopes.Binding as code-binding
@@ -16,13 +18,14 @@ use Rattle.unfold.specs.Scopes.{Binding, Env, lookup}
 use Rattle.unfold.specs.Variables.{Uses, ParamsOf, uses_block, written, gets, got_new, got_env, all_get, all_new}
 use Rattle.unfold.specs.Steps.{got_as, got_one, next_cell}
 use Rattle.unfold.specs.Occurrences.{uses}
-use Rattle.unfold.specs.Views.{env, binding, got, gots, new, news}
+use Rattle.unfold.specs.Getting.{had}
+use Rattle.unfold.specs.Views.{env, binding, got, gots, new, news, MoreNews}
 
 module _ (v : Env) (all us : Uses) (had : List (List ℕ)) (n : Name) (b : Bool) (c : ℕ) where
   abbrev R : List (List ℕ) → ℕ → List Got
   R h k = gets v all us h k
 
-  pub gets_some : (g : Got) → got_one v all had n c ≡ Some g → gets v all ((n, b) ∷ us) had c ≡ g ∷ R (n.text ∷ had) (next_cell c g.from)
+  pub gets_some : (g : Got) → got_one v all had n c ≡ Some g → gets v all ((n, b) ∷ us) had c ≡ g ∷ R (g.name.text ∷ had) (next_cell c g.from)
   gets_some g e = go (among n.text had) (lookup v n.text) (written all n.text) e
     where
       go : (s : Bool) (o : Option Binding) (w : Bool)
@@ -37,46 +40,38 @@ module _ (v : Env) (all us : Uses) (had : List (List ℕ)) (n : Name) (b : Bool)
               ]
             ]
           ])
-          (g ∷ R (n.text ∷ had) (next_cell c g.from))
+          (g ∷ R (g.name.text ∷ had) (next_cell c g.from))
       go true o w k = absurd (let z : ◌≡◌ {A = ℕ} 0 1 = cc in omega arith)
       go false None w k = absurd (let z : ◌≡◌ {A = ℕ} 0 1 = cc in omega arith)
       go false (Some x) true k =
           let i : got_as true n x c ≡ g = cc in
-          subst (λ (z : Got). ◌≡◌ {A = List Got} (got_as true n x c ∷ R (n.text ∷ had) c) (z ∷ R (n.text ∷ had) (next_cell c z.from))) i refl
+          subst (λ (z : Got). ◌≡◌ {A = List Got} (got_as true n x c ∷ R (n.text ∷ had) c) (z ∷ R (z.name.text ∷ had) (next_cell c z.from))) i refl
       go false (Some x) false k =
           let i : got_as false n x c ≡ g = cc in
-          subst (λ (z : Got). ◌≡◌ {A = List Got} (got_as false n x c ∷ R (n.text ∷ had) (suc c)) (z ∷ R (n.text ∷ had) (next_cell c z.from))) i refl
-
-  pub gets_none : got_one v all had n c ≡ None → gets v all ((n, b) ∷ us) had c ≡ R had c
-  gets_none e = go (among n.text had) (lookup v n.text) (written all n.text) e
-    where
-      go : (s : Bool) (o : Option Binding) (w : Bool)
-          → ◌≡◌ {A = Option Got} (elim s [ true ↦ None | false ↦ elim o [ None ↦ None | Some x ↦ Some (got_as w n x c) ] ]) None
-          → ◌≡◌ {A = List Got} (elim s [
-            | true ↦ R had c
-            | false ↦ elim o [
-              | None ↦ R had c
-              | Some x ↦ elim w [
-                | true ↦ record { name = n; own = x.own; home = x.home; from = None } ∷ R (n.text ∷ had) c
-                | false ↦ record { name = n; own = c; home = x.home; from = Some x.own } ∷ R (n.text ∷ had) (suc c)
-              ]
-            ]
-          ]) (R had c)
-      go true o w k = refl
-      go false None w k = refl
-      go false (Some x) w k = absurd (let z : ◌≡◌ {A = ℕ} 0 1 = cc in omega arith)
+          subst (λ (z : Got). ◌≡◌ {A = List Got} (got_as false n x c ∷ R (n.text ∷ had) (suc c)) (z ∷ R (z.name.text ∷ had) (next_cell c z.from))) i refl
 
 pub gots_push : (text : List ℕ) (gs : List code_got.Got) (g : code_got.Got) → gots text (gs ++ (g ∷ [])) ≡ gots text gs ++ (got text g ∷ [])
 gots_push text [] g = refl
 gots_push text (h ∷ gs) g = ap (λ (xs : List Got). got text h ∷ xs) (gots_push text gs g)
 
-pub news_push : (text : List ℕ) (ns : List code-new.New) (n : code-new.New) → news text (ns ++ (n ∷ [])) ≡ news text ns ++ (new text n ∷ [])
-news_push text [] n = refl
-news_push text (m ∷ ns) n = ap (λ (xs : List New). new text m ∷ xs) (news_push text ns n)
+pub news_app : (text : List ℕ) (ns ms : List code-new.New) → news text (ns ++ ms) ≡ news text ns ++ news text ms
+news_app text [] ms = refl
+news_app text (n ∷ ns) ms = ap (λ (xs : List New). new text n ∷ xs) (news_app text ns ms)
 
 pub env_push : (text : List ℕ) (bs : List code-binding.Binding) (b : code-binding.Binding) → env text (bs ++ (b ∷ [])) ≡ env text bs ++ (binding text b ∷ [])
 env_push text [] b = refl
 env_push text (d ∷ bs) b = ap (λ (xs : Env). binding text d ∷ xs) (env_push text bs b)
+
+-- the names that were had
+pub had_push : (text : List ℕ) (gs : List code_got.Got) (g : code_got.Got) → had text (gs ++ (g ∷ [])) ≡ (name text g.name).text ∷ had text gs
+had_push text gs g = ap (scope text) (map-append (λ (x : code_got.Got). x.name) gs (g ∷ [])) ∙ stacked_push text [] (map (λ (x : code_got.Got). x.name) gs) g.name
+
+pub had_any : (text w : List ℕ) (gs : List code_got.Got) → list_any (λ (g : code_got.Got). same w (name text g.name).text) gs ≡ among w (had text gs)
+had_any text w gs = go gs ∙ sym (among_scope text w (map (λ (g : code_got.Got). g.name) gs))
+  where
+    go : (gs : List code_got.Got) → list_any (λ (g : code_got.Got). same w (name text g.name).text) gs ≡ list_any (λ (m : code-name.Name). same w (name text m).text) (map (λ (g : code_got.Got). g.name) gs)
+    go [] = refl
+    go (g ∷ gs) = ap (λ (b : Bool). same w (name text g.name).text || b) (go gs)
 
 -- new ones, by parts
 pub new_cons : (g : Got) (gs : List Got) → got_new (g ∷ gs) ≡ got_new (g ∷ []) ++ got_new gs
@@ -101,20 +96,16 @@ new_one g c = go g.from
     go (Some a) = omega arith
 
 -- one step of a branch that gets something
-module _ (text : List ℕ) (v : Env) (all : Uses) (n : code-name.Name) where
-  pub on_some : (gs hs : List code_got.Got) (had more : List code-name.Name) (c d : ℕ) (g : code_got.Got)
-      → Some (got text g) ≡ got_one v all (scope text had) (name text n) c → hs ≡ gs ++ (g ∷ []) → more ≡ had ++ (n ∷ []) → d ≡ next_cell c g.from
-      → (us : Uses) (w : Bool) → gots text gs ++ gets v all ((name text n, w) ∷ us) (scope text had) c ≡ gots text hs ++ gets v all us (scope text more) d
-  on_some gs hs had more c d g e f h k us w =
-      ap (λ (xs : List Got). gots text gs ++ xs) (gets_some v all us (scope text had) (name text n) w c (got text g) (sym e))
-      ∙ sym (append_assoc (gots text gs) (got text g ∷ []) (gets v all us ((name text n).text ∷ scope text had) (next_cell c g.from)))
-      ∙ ap (λ (xs : List Got). xs ++ gets v all us ((name text n).text ∷ scope text had) (next_cell c g.from)) (sym (gots_push text gs g) ∙ ap (gots text) (sym f))
-      ∙ ap (λ (ws : List (List ℕ)). gots text hs ++ gets v all us ws (next_cell c g.from)) (sym (stacked_push text [] had n) ∙ ap (scope text) (sym h))
-      ∙ ap (λ (z : ℕ). gots text hs ++ gets v all us (scope text more) z) (sym k)
-
-  pub on_none : (gs : List code_got.Got) (had : List code-name.Name) (c : ℕ) → None ≡ got_one v all (scope text had) (name text n) c
-      → (us : Uses) (w : Bool) → gots text gs ++ gets v all ((name text n, w) ∷ us) (scope text had) c ≡ gots text gs ++ gets v all us (scope text had) c
-  on_none gs had c e us w = ap (λ (xs : List Got). gots text gs ++ xs) (gets_none v all us (scope text had) (name text n) w c (sym e))
+pub on_some : (text : List ℕ) (v : Env) (all : Uses) (n : code-name.Name) (gs hs : List code_got.Got) (c d : ℕ) (g : code_got.Got)
+    → Some (got text g) ≡ got_one v all (had text gs) (name text n) c → hs ≡ gs ++ (g ∷ []) → d ≡ next_cell c g.from
+    → (us : Uses) (w : Bool) → gots text gs ++ gets v all ((name text n, w) ∷ us) (had text gs) c ≡ gots text hs ++ gets v all us (had text hs) d
+on_some text v all n gs hs c d g e f k us w =
+    let more = gets v all us ((name text g.name).text ∷ had text gs) (next_cell c g.from) in
+    ap (λ (xs : List Got). gots text gs ++ xs) (gets_some v all us (had text gs) (name text n) w c (got text g) (sym e))
+    ∙ sym (append_assoc (gots text gs) (got text g ∷ []) more)
+    ∙ ap (λ (xs : List Got). xs ++ more) (sym (gots_push text gs g) ∙ ap (gots text) (sym f))
+    ∙ ap (λ (ws : List (List ℕ)). gots text hs ++ gets v all us ws (next_cell c g.from)) (sym (had_push text gs g) ∙ ap (had text) (sym f))
+    ∙ ap (λ (z : ℕ). gots text hs ++ gets v all us (had text hs) z) (sym k)
 
 pub numbered_on : (text : List ℕ) (gs hs : List code_got.Got) (g : code_got.Got) (first c d : ℕ) → hs ≡ gs ++ (g ∷ []) → d ≡ next_cell c g.from
     → c ≡ first + length (got_new (gots text gs)) → d ≡ first + length (got_new (gots text hs))
@@ -129,40 +120,39 @@ pub next_le : (c : ℕ) (o : Option ℕ) → next_cell c o ≤ c + 1
 next_le c None = omega arith
 next_le c (Some a) = omega arith
 
--- loops over what was got
-pub news_step : (text : List ℕ) (us ws : List code-new.New) (gs : List code_got.Got) (i : ℕ) (d : code_got.Got) (X : List New) → i < length gs
-    → X ≡ news text us ++ got_new (gots text (drop i gs)) → news text ws ≡ news text us ++ got_new (got text (get_or gs i d) ∷ [])
-    → X ≡ news text ws ++ got_new (gots text (drop (i + 1) gs))
-news_step text us ws gs i d X h e f =
-    let more = got_new (gots text (drop (i + 1) gs)) in
-    e ∙ ap (λ (zs : List New). news text us ++ zs) (at_drop_more (λ (xs : List code_got.Got). got_new (gots text xs)) gs i d h ∙ new_cons (got text (get_or gs i d)) (gots text (drop (i + 1) gs)))
-    ∙ sym (append_assoc (news text us) (got_new (got text (get_or gs i d) ∷ [])) more) ∙ ap (λ (zs : List New). zs ++ more) (sym f)
+-- the next number, by a count of what is new
+pub next_count : (c : ℕ) (o : Option ℕ) → c + cond (is_some o) 1 0 ≡ next_cell c o
+next_count c None = omega arith
+next_count c (Some a) = omega arith
 
-pub news_end : (text : List ℕ) (us : List code-new.New) (gs : List code_got.Got) (i : ℕ) → length gs ≤ i → news text us ++ got_new (gots text (drop i gs)) ≡ news text us
-news_end text us gs i h = ap (λ (zs : List New). news text us ++ zs) (at_drop_all (λ (xs : List code_got.Got). got_new (gots text xs)) gs i h) ∙ append-nil (news text us)
+-- the new cells of a branch, and what its names stand for
+abbrev pub new_of : code_got.Got → code-new.New
+new_of g = record { home = g.home; name = g.name }
 
-pub env_step : (text : List ℕ) (us ws : List code-binding.Binding) (gs : List code_got.Got) (i : ℕ) (d : code_got.Got) (X : Env) → i < length gs
-    → X ≡ env text us ++ got_env (gots text (drop i gs)) → ws ≡ us ++ (record { name = (get_or gs i d).name; own = (get_or gs i d).own; home = (get_or gs i d).home } ∷ [])
-    → X ≡ env text ws ++ got_env (gots text (drop (i + 1) gs))
-env_step text us ws gs i d X h e f =
-    let more = got_env (gots text (drop (i + 1) gs)) in
-    let b : code-binding.Binding = record { name = (get_or gs i d).name; own = (get_or gs i d).own; home = (get_or gs i d).home } in
-    e ∙ ap (λ (zs : Env). env text us ++ zs) (at_drop_more (λ (xs : List code_got.Got). got_env (gots text xs)) gs i d h)
-    ∙ sym (append_assoc (env text us) (binding text b ∷ []) more) ∙ ap (λ (zs : Env). zs ++ more) (sym (env_push text us b) ∙ ap (env text) (sym f))
+pub news_kept : (text : List ℕ) (gs : List code_got.Got) → news text (map new_of (filter (λ g. is_some g.from) gs)) ≡ got_new (gots text gs)
+news_kept text [] = refl
+news_kept text (g ∷ gs) = go g.from (news_kept text gs)
+  where
+    rest : List code_got.Got
+    rest = filter (λ (x : code_got.Got). is_some x.from) gs
 
-pub env_end : (text : List ℕ) (us : List code-binding.Binding) (gs : List code_got.Got) (i : ℕ) → length gs ≤ i → env text us ++ got_env (gots text (drop i gs)) ≡ env text us
-env_end text us gs i h = ap (λ (zs : Env). env text us ++ zs) (at_drop_all (λ (xs : List code_got.Got). got_env (gots text xs)) gs i h) ∙ append-nil (env text us)
+    go : (o : Option ℕ) → news text (map new_of rest) ≡ got_new (gots text gs)
+        → news text (map new_of (cond (is_some o) (g ∷ rest) rest))
+        ≡ elim o as (λ z. List New) [ None ↦ got_new (gots text gs) | Some a ↦ record { home = g.home; name = name text g.name } ∷ got_new (gots text gs) ]
+    go None h = h
+    go (Some a) h = ap (λ (xs : List New). record { home = g.home; name = name text g.name } ∷ xs) h
+
+abbrev pub binding_of : code_got.Got → code-binding.Binding
+binding_of g = record { name = g.name; own = g.own; home = g.home }
+
+pub env_map : (text : List ℕ) (gs : List code_got.Got) → env text (map binding_of gs) ≡ got_env (gots text gs)
+env_map text [] = refl
+env_map text (g ∷ gs) = ap (λ (v : Env). binding text (binding_of g) ∷ v) (env_map text gs)
 
 -- the occurrences of a table
 pub found_more : {A : Type 0} (F : Uses → A) (text : List ℕ) (us : List code-use.Use) (i : ℕ) (d : code-use.Use) → i < length us
     → F (uses text (drop i us)) ≡ F ((name text (get_or us i d).name, (get_or us i d).written) ∷ uses text (drop (i + 1) us))
 found_more F text us i d h = at_drop_more (λ (xs : List code-use.Use). F (uses text xs)) us i d h
-
-pub all_end : {A : Type 0} (F : Uses → A) (text : List ℕ) (us : List code-use.Use) (i : ℕ) → length us ≤ i → F (uses text (drop i us)) ≡ F []
-all_end F text us i h = at_drop_all (λ (xs : List code-use.Use). F (uses text xs)) us i h
-
-pub pushed : {X : Type 0} (xs ys : List X) (x : X) (b : Bool) → ys ≡ cond b (xs ++ (x ∷ [])) xs → b ≡ true → ys ≡ xs ++ (x ∷ [])
-pushed {X} xs ys x b e t = e ∙ ap (λ (z : Bool). cond z (xs ++ (x ∷ [])) xs) t
 
 -- the new cells of a branch do not depend on their numbers
 pub new_any : (v : Env) (all us : Uses) (had : List (List ℕ)) (c d : ℕ) → got_new (gets v all us had c) ≡ got_new (gets v all us had d)
@@ -205,12 +195,12 @@ all_new_any f v (Also a bs) c d =
     ap₂ {B = List New} (λ (x y : List New). x ++ y) (new_any v us us [] c d) (all_new_any f v bs (c + length (got_new (gets v us us [] c))) (d + length (got_new (gets v us us [] d))))
 
 -- the new cells of a branch, and then those of the others
-pub branch_news : (text : List ℕ) (f : ParamsOf) (v : Env) (a : Block) (bs : Blocks) (xs ys zs : List code-new.New) (gs : List Got)
-    → gs ≡ gets v (uses_block f a) (uses_block f a) [] 0 → news text ys ≡ news text xs ++ got_new gs → news text zs ≡ news text ys ++ all_new (all_get f v bs 0)
-    → news text zs ≡ news text xs ++ all_new (all_get f v (Also a bs) 0)
-branch_news text f v a bs xs ys zs gs e h k =
+pub branch_news : (text : List ℕ) (f : ParamsOf) (v : Env) (a : Block) (bs : Blocks) (xs ys zs : List code-new.New) (gs : List Got) (r : Result (Unit {0}) Error)
+    → gs ≡ gets v (uses_block f a) (uses_block f a) [] 0 → news text ys ≡ news text xs ++ got_new gs → MoreNews text ys (all_new (all_get f v bs 0)) r zs
+    → MoreNews text xs (all_new (all_get f v (Also a bs) 0)) r zs
+branch_news text f v a bs xs ys zs gs (Ok u) e h k =
     let us = uses_block f a in
     let first = got_new (gets v us us [] 0) in
-    let rest = all_new (all_get f v bs (0 + length first)) in
     k ∙ ap (λ (ns : List New). ns ++ all_new (all_get f v bs 0)) (h ∙ ap (λ (x : List Got). news text xs ++ got_new x) e)
     ∙ append_assoc (news text xs) first (all_new (all_get f v bs 0)) ∙ ap (λ (ns : List New). news text xs ++ (first ++ ns)) (all_new_any f v bs 0 (0 + length first))
+branch_news text f v a bs xs ys zs gs (Err x) e h k = k

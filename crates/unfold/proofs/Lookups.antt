@@ -1,22 +1,27 @@
--- Looking up a name in a table, from an index on.
-use Rattle.std.proofs.Common.{◌≡◌, ℕ, ◌+◌, ◌<◌, ◌≤◌, Bool, true, false, List, length, get_or, drop, Some, None, sym, ap, ◌∙◌}
-use Rattle.std.proofs.lemmas.List.{at_drop_more, at_drop_all}
+-- Looking up a name in a table.
+use Rattle.std.proofs.Common.{◌≡◌, ℕ, Bool, true, false, cond, ◌&&◌, ◌||◌, List, [], ◌∷◌, Some, Option, refl, ap, find}
+use Rattle.std.specs.List.{list_any}
 use Rattle.reader.specs.Tokens.{same}
+use Rattle.grammar.specs.Views.{name}
 use Rattle.unfold.specs.declared.scopes.Binding as code-binding
-use Rattle.unfold.specs.Scopes.{lookup}
-use Rattle.unfold.specs.Views.{env, binding}
+use Rattle.unfold.specs.declared.uses.Use as code-use
+use Rattle.unfold.specs.Scopes.{Binding, lookup}
+use Rattle.unfold.specs.Variables.{written}
+use Rattle.unfold.specs.Occurrences.{uses}
+use Rattle.unfold.specs.Views.{env, binding, perhaps}
 
-pub look_here : (text w : List ℕ) (bs : List code-binding.Binding) (i : ℕ) (d : code-binding.Binding) → i < length bs
-    → true ≡ same w (binding text (get_or bs i d)).name → lookup (env text (drop i bs)) w ≡ Some (binding text (get_or bs i d))
-look_here text w bs i d h e =
-    at_drop_more (λ (cs : List code-binding.Binding). lookup (env text cs) w) bs i d h
-    ∙ ap (λ (b : Bool). elim b [ true ↦ Some (binding text (get_or bs i d)) | false ↦ lookup (env text (drop (i + 1) bs)) w ]) (sym e)
+pub lookup_find : (text w : List ℕ) (bs : List code-binding.Binding) → perhaps (binding text) (find (λ b. same w (name text b.name).text) bs) ≡ lookup (env text bs) w
+lookup_find text w [] = refl
+lookup_find text w (b ∷ bs) = go (same w (name text b.name).text) (lookup_find text w bs)
+  where
+    F : Option code-binding.Binding
+    F = find (λ (x : code-binding.Binding). same w (name text x.name).text) bs
 
-pub look_on : (text w : List ℕ) (bs : List code-binding.Binding) (i : ℕ) (d : code-binding.Binding) → i < length bs
-    → false ≡ same w (binding text (get_or bs i d)).name → lookup (env text (drop i bs)) w ≡ lookup (env text (drop (i + 1) bs)) w
-look_on text w bs i d h e =
-    at_drop_more (λ (cs : List code-binding.Binding). lookup (env text cs) w) bs i d h
-    ∙ ap (λ (b : Bool). elim b [ true ↦ Some (binding text (get_or bs i d)) | false ↦ lookup (env text (drop (i + 1) bs)) w ]) (sym e)
+    go : (t : Bool) → perhaps (binding text) F ≡ lookup (env text bs) w
+        → perhaps (binding text) (cond t (Some b) F) ≡ elim t as (λ z. Option Binding) [ true ↦ Some (binding text b) | false ↦ lookup (env text bs) w ]
+    go true h = refl
+    go false h = h
 
-pub look_end : (text w : List ℕ) (bs : List code-binding.Binding) (i : ℕ) → length bs ≤ i → lookup (env text (drop i bs)) w ≡ None
-look_end text w bs i h = at_drop_all (λ (cs : List code-binding.Binding). lookup (env text cs) w) bs i h
+pub written_any : (text w : List ℕ) (us : List code-use.Use) → list_any (λ (u : code-use.Use). u.written && same w (name text u.name).text) us ≡ written (uses text us) w
+written_any text w [] = refl
+written_any text w (u ∷ us) = ap (λ (b : Bool). (u.written && same w (name text u.name).text) || b) (written_any text w us)

@@ -1,19 +1,24 @@
 -- What a branch got so far, as the code keeps it.
-use Rattle.std.specs.Prelude.{◌≡◌, ℕ, ◌+◌, ◌≤◌, Bool, List, [], ◌∷◌, ◌++◌, length, Ok, Err, vec_items, Result}
+use Rattle.std.specs.Prelude.{◌≡◌, ℕ, ◌+◌, ◌≤◌, Bool, List, [], ◌∷◌, ◌++◌, length, map, Ok, Err, vec_items, Result}
 use Rattle.reader.specs.declared.fault.Error.{Error}
 use Rattle.reader.specs.declared.fault.Error.TheVariants.{OutOfMemory}
 use Rattle.grammar.specs.declared.tree.Name as code-name
 use Rattle.grammar.specs.Views.{name}
 use Rattle.names.specs.Scopes.{scope}
 use Rattle.unfold.specs.declared.gets.Getting as code-getting
+use Rattle.unfold.specs.declared.nodes.Got as code_got
 use Rattle.unfold.specs.Unfolded.{Got}
 use Rattle.unfold.specs.Scopes.{Env}
 use Rattle.unfold.specs.Variables.{Uses, gets, got_new}
 use Rattle.unfold.specs.Views.{gots}
 
+-- the names that were had, the last in front
+abbrev pub had : List ℕ → List code_got.Got → List (List ℕ)
+had text gs = scope text (map (λ g. g.name) gs)
+
 -- what was got, with what the occurrences still to come bring
 abbrev pub in_all : List ℕ → Env → Uses → code-getting.Getting → Uses → List Got
-in_all text v all s us = gots text (vec_items s.got) ++ gets v all us (scope text (vec_items s.had)) s.next
+in_all text v all s us = gots text (vec_items s.got) ++ gets v all us (had text (vec_items s.got)) s.next
 
 -- the next number is the first plus how many are new
 abbrev pub Numbered : List ℕ → ℕ → code-getting.Getting → Type 0

@@ -1,5 +1,5 @@
 -- What the code's lists of occurrences stand for.
-use Rattle.std.specs.Prelude.{◌≡◌, ℕ, List, [], ◌∷◌, ◌++◌, Some, None, Ok, Err, Option, Result}
+use Rattle.std.specs.Prelude.{◌≡◌, ℕ, List, [], ◌++◌, map, Some, None, Ok, Err, Option, Result}
 use Rattle.reader.specs.declared.fault.Error.{Error}
 use Rattle.reader.specs.declared.fault.Error.TheVariants.{OutOfMemory}
 use Rattle.grammar.specs.Views.{name}
@@ -9,8 +9,7 @@ use Rattle.names.specs.Naming.{find_proc}
 use Rattle.unfold.specs.Variables.{Uses, ParamsOf}
 
 abbrev pub uses : List ℕ → List code-use.Use → Uses
-uses text [] = []
-uses text (u ∷ us) = (name text u.name, u.written) ∷ uses text us
+uses text us = map (λ u. (name text u.name, u.written)) us
 
 -- a list before and after some occurrences are added, which fails only for want of memory
 abbrev pub Adds : List ℕ → List code-use.Use → Uses → Result (Unit {0}) Error → List code-use.Use → Type 0

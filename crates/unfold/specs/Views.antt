@@ -4,7 +4,10 @@ use Rattle.reader.specs.declared.fault.Error.{Error}
 use Rattle.reader.specs.declared.fault.Error.TheVariants.{Refused, OutOfMemory}
 use Rattle.reader.specs.Faults.{Answer}
 use Rattle.grammar.specs.declared.tree.Name as code-name
+use Rattle.reader.specs.declared.fault.Fault.{Fault}
+use Rattle.grammar.specs.Trees.{Proc}
 use Rattle.grammar.specs.Views.{name}
+use Rattle.names.specs.Scopes.{ended}
 use Rattle.rules.specs.Programs as rules
 use Rattle.tables.specs.Stms.{expr, copies}
 use Rattle.unfold.specs.declared.nodes.New as code-new
@@ -18,6 +21,7 @@ use Rattle.unfold.specs.declared.nodes.Nodes as code-nodes
 use Rattle.unfold.specs.declared.nodes.Branches as code-branches
 use Rattle.unfold.specs.declared.nodes.Branches.TheVariants as tree
 use Rattle.unfold.specs.declared.scopes.Binding as code-binding
+use Rattle.unfold.specs.declared.scopes.Scope as code-scope
 use Rattle.unfold.specs.declared.counts.Count as code-count
 use Rattle.unfold.specs.Unfolded.{New, Got, Part, plain, calls, tests, loops, tries, takes, Node, one, throws, two, par, Nodes, nil, seq, Branches, last, also}
 use Rattle.unfold.specs.Scopes.{Binding, Env}
@@ -28,6 +32,11 @@ abbrev pub Gives : {A V : Type 0} → (V → A) → Result V Error → Answer A 
 Gives view (Ok v) r = r ≡ Ok (view v)
 Gives view (Err (Refused f)) r = r ≡ Err f
 Gives view (Err OutOfMemory) r = Unit {0}
+
+-- code that allocates nothing answers just that
+abbrev pub Says : {A V : Type 0} → (V → A) → Result V Fault → Answer A → Type 0
+Says view (Ok v) r = r ≡ Ok (view v)
+Says view (Err f) r = r ≡ Err f
 
 -- code that refuses nothing fails only for want of memory
 abbrev pub Builds : {V : Type 0} → (V → Type 0) → Result V Error → Type 0
@@ -47,6 +56,13 @@ binding text b = record { name = (name text b.name).text; own = b.own; home = b.
 abbrev pub env : List ℕ → List code-binding.Binding → Env
 env text [] = []
 env text (b ∷ bs) = binding text b ∷ env text bs
+
+-- the procedures and the variables of a scope
+abbrev pub visible : code-scope.Scope → List Proc
+visible s = ended s.text.now s.procs.now
+
+abbrev pub variables : code-scope.Scope → Env
+variables s = env s.text.now s.bindings.now
 
 abbrev pub new : List ℕ → code-new.New → New
 new text n = record { home = n.home; name = name text n.name }

@@ -11,6 +11,5 @@ pub mod nodes;
 mod passing;
 mod procs;
 mod scopes;
-mod spelling;
 pub mod unfolding;
 mod uses;

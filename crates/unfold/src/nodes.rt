@@ -39,7 +39,8 @@ pub enum Part {
     Takes(usize, usize),
 }
 
-// Each statement has its offset and the cells that it brings.
+// Each statement has its offset and the cells that it brings. A list is a chain of boxes and no `Vec`, as in the tree of a
+// text, so that definitions match on statements.
 #[cycle(node)]
 #[derive(Drop)]
 pub enum Node {

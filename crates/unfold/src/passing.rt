@@ -1,15 +1,15 @@
 // The arguments of a call.
-ghost use Rattle.std.specs.Prelude.{◌≡◌, ◌≤◌};
+ghost use Rattle.std.specs.Prelude.{ℕ, List};
 ghost use Rattle.grammar.specs.Views.{names, params as parameters};
 ghost use Rattle.unfold.specs.Unfolding.{passes};
 ghost use Rattle.unfold.specs.Passing.{passed, PassesOn};
-ghost use Rattle.unfold.specs.Views.{env, Gives};
+ghost use Rattle.unfold.specs.Views.{variables, Gives};
 
+use crate::counts::Count;
 use crate::nodes::New;
-use crate::scopes::{Binding, resolve_name};
+use crate::scopes::{Binding, Scope};
 use grammar::tree::{Name, Param};
 use reader::fault::Error;
-use std::alloc::Global;
 use tables::stmt::Copied;
 
 // What the parameters stand for, the copies of a call, the cells that it brings, and its by-reference arguments.
@@ -21,65 +21,48 @@ pub struct Passed {
     pub refs: Vec<Name>,
 }
 
-// One argument more, with new cells numbered from `first`.
-fn pass_one(
-    text: &[u8],
-    p: Param,
-    a: Name,
-    b: Binding,
-    first: usize,
-    s: &mut Passed,
-) -> Result<(), Error>
-    requires { first ≤ 128 }
-    ensures { PassesOn text.now p a b first s.old result s.new }
-{
-    if p.reference {
-        s.env.push(Binding {
+impl Passed {
+    // One argument more, with new cells numbered after those that there are.
+    fn pass(&mut self, n: Count, p: Param, a: Name, b: Binding) -> Result<(), Error>
+        ensures { (text : List ℕ) → PassesOn text p a b n.cells self.old result self.new }
+    {
+        if p.reference {
+            self.env.push(Binding { name: p.name, ..b })?;
+            self.refs.push(a)?;
+            return Ok(());
+        }
+        let own = n.cells + self.news.len();
+        self.env.push(Binding {
             name: p.name,
-            own: b.own,
-            home: b.home,
+            own,
+            ..b
         })?;
-        s.refs.push(a)?;
-        return Ok(());
+        self.copies.push(Copied {
+            to: own,
+            from: b.own,
+        })?;
+        self.news.push(New {
+            home: b.home,
+            name: p.name,
+        })?;
+        Ok(())
     }
-    let own = first + s.news.len();
-    s.env.push(Binding {
-        name: p.name,
-        own,
-        home: b.home,
-    })?;
-    s.copies.push(Copied {
-        to: own,
-        from: b.own,
-    })?;
-    s.news.push(New {
-        home: b.home,
-        name: p.name,
-    })?;
-    Ok(())
 }
 
-pub fn pass_args(
-    heap: Global,
-    text: &[u8],
-    bindings: &[Binding],
-    params: &[Param],
-    args: &[Name],
-    first: usize,
-) -> Result<Passed, Error>
-    requires { first ≤ 128 }
-    ensures { Gives (passed text.now) result (passes (env text.now bindings.now) (parameters text.now params.now) (names text.now args.now) first) }
-{
-    let mut s = Passed {
-        env: Vec::new(heap),
-        copies: Vec::new(heap),
-        news: Vec::new(heap),
-        refs: Vec::new(heap),
-    };
-    let count = params.len().min(args.len());
-    for i in 0..count {
-        let b = resolve_name(text, bindings, args[i])?;
-        pass_one(text, params[i], args[i], b, first, &mut s)?;
+impl<'a> Scope<'a> {
+    pub fn pass_args(&self, n: Count, params: &[Param], args: &[Name]) -> Result<Passed, Error>
+        ensures { Gives (passed self.now.text.now) result (passes (variables self.now) (parameters self.now.text.now params.now) (names self.now.text.now args.now) n.cells) }
+    {
+        let mut s = Passed {
+            env: Vec::new(self.heap),
+            copies: Vec::new(self.heap),
+            news: Vec::new(self.heap),
+            refs: Vec::new(self.heap),
+        };
+        for (p, a) in params.iter().zip(args) {
+            let b = self.resolve_name(*a)?;
+            s.pass(n, *p, *a, b)?;
+        }
+        Ok(s)
     }
-    Ok(s)
 }

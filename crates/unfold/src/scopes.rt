@@ -1,12 +1,12 @@
 // What names stand for.
-ghost use Rattle.std.specs.Prelude.{◌≡◌, ◌∷◌};
+ghost use Rattle.std.specs.Prelude.{◌≡◌};
 ghost use Rattle.grammar.specs.Views.{name};
 ghost use Rattle.unfold.specs.Scopes.{lookup, stands};
-ghost use Rattle.unfold.specs.Views.{env, binding, perhaps, Gives, Builds};
+ghost use Rattle.unfold.specs.Views.{binding, perhaps, variables, Says};
 
-use crate::spelling::alike;
-use grammar::tree::Name;
-use reader::fault::{Cause, Error, Fault};
+use crate::nodes::Got;
+use grammar::tree::{Name, Proc};
+use reader::fault::{Cause, Fault};
 use std::alloc::Global;
 
 // A variable of a place: its name, and the own cell and the home that it stands for.
@@ -17,36 +17,42 @@ pub struct Binding {
     pub home: usize,
 }
 
-// What a name stands for, where the first binding of it counts.
-pub fn find_binding(text: &[u8], bindings: &[Binding], n: Name) -> Option<Binding>
-    ensures { perhaps (binding text.now) result ≡ lookup (env text.now bindings.now) (name text.now n).text }
-{
-    for b in bindings {
-        if alike(text, n, b.name) {
-            return Some(*b);
+impl From<Got> for Binding {
+    ghost from_gives = { λ g b. b ≡ record { name = g.name; own = g.own; home = g.home } };
+
+    fn from(g: Got) -> Binding {
+        Binding {
+            name: g.name,
+            own: g.own,
+            home: g.home,
         }
     }
-    None
 }
 
-pub fn resolve_name(text: &[u8], bindings: &[Binding], n: Name) -> Result<Binding, Error>
-    ensures { Gives (binding text.now) result (stands (env text.now bindings.now) (name text.now n)) }
-{
-    match find_binding(text, bindings, n) {
-        Some(b) => Ok(b),
-        None => Err(Error::Refused(Fault {
-            cause: Cause::NotVisible,
-            offset: n.at,
-        })),
+// Where a part of the text is unfolded: the text, the procedures and the variables that are visible there, and the heap.
+// The number kind is no field: only expressions read it, and each other method would be generic in it too.
+#[derive(Clone, Copy)]
+pub struct Scope<'a> {
+    pub heap: Global,
+    pub text: &'a [u8],
+    pub procs: &'a [Proc],
+    pub bindings: &'a [Binding],
+}
+
+impl<'a> Scope<'a> {
+    // What a name stands for, where the first binding of it counts.
+    pub fn find_binding(&self, n: Name) -> Option<Binding>
+        ensures { perhaps (binding self.now.text.now) result ≡ lookup (variables self.now) (name self.now.text.now n).text }
+    {
+        self.bindings
+            .iter()
+            .find(|b| n.is_alike(self.text, b.name))
+            .copied()
     }
-}
 
-// One more variable, in front of the others.
-pub fn declare(heap: Global, bindings: &[Binding], b: Binding) -> Result<Vec<Binding>, Error>
-    ensures { Builds (λ v. v.items ≡ b ∷ bindings.now) result }
-{
-    let mut all = Vec::new(heap);
-    all.push(b)?;
-    all.extend_from_slice(bindings)?;
-    Ok(all)
+    pub fn resolve_name(&self, n: Name) -> Result<Binding, Fault>
+        ensures { Says (binding self.now.text.now) result (stands (variables self.now) (name self.now.text.now n)) }
+    {
+        self.find_binding(n).ok_or(Cause::NotVisible.at(n.at))
+    }
 }

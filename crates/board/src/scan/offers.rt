@@ -4,7 +4,7 @@ ghost use Rattle.rules.specs.States as rules;
 ghost use Rattle.rules.specs.Listings.{nth, each, steps_of, closes_of, meets_of, poisons_of, listing};
 ghost use Rattle.tables.specs.Views.{table, cells_of, move, moved};
 ghost use Rattle.board.specs.Views.{portless};
-ghost use Rattle.board.specs.Scans.{Scanned};
+ghost use Rattle.board.specs.Scans.{Scanned, listed};
 
 use crate::scan::Scan;
 use crate::state::State;
@@ -12,73 +12,45 @@ use tables::moves::Move;
 use tables::tables::Tables;
 
 impl Scan {
-    // The next move in order, with whether it is permitted.
-    fn offer(&mut self, m: Move, yes: bool)
+    // The next move in order, if it is permitted.
+    fn offer(&mut self, m: Option<Move>)
         requires { self.old.count < 1000000 }
         ensures grows { self.new.count ≤ self.old.count + 1 }
-        ensures list { (w : ℕ) (xs : List rules.Move) → Scanned w xs self.old → Scanned w (xs ++ (if yes then move m ∷ [] else [])) self.new }
+        ensures list { (w : ℕ) (xs : List rules.Move) → Scanned w xs self.old → Scanned w (xs ++ listed m) self.new }
     {
-        if yes {
+        if m.is_some() {
             if self.count == self.want {
-                self.found = Some(m);
+                self.found = m;
             }
             self.count += 1;
+        }
+    }
+
+    // The moves of the numbers below `n`, in order, each if it is permitted.
+    fn offer_each<F: Fn(usize) -> Option<Move>>(&mut self, n: usize, permitted: F)
+        requires few { self.old.count ≤ 100000 }
+        requires bounded { n ≤ 128 }
+        requires callable { (i : ℕ) → i < n → F.pre permitted i }
+        ensures grows { self.new.count ≤ self.old.count + n }
+        ensures list { (f : ℕ → List rules.Move) → ((i : ℕ) (m : _) → i < n → F.post permitted i m → listed m ≡ f i) → (w : ℕ) (xs : List rules.Move) → Scanned w xs self.old → Scanned w (xs ++ each f n) self.new }
+    {
+        for i in 0..n {
+            self.offer(permitted(i));
         }
     }
 }
 
 impl State {
-    fn scan_steps(&self, t: &Tables, scan: &mut Scan)
-        requires { scan.old.count ≤ 100000 }
-        ensures grows { scan.new.count ≤ scan.old.count + 64 }
-        ensures list { (w : ℕ) (xs : List rules.Move) → Scanned w xs scan.old → Scanned w (xs ++ each (steps_of (table t.now) (portless self.now)) (table t.now).places) scan.new }
-    {
-        for p in 0..t.place_count() {
-            let yes = self.can_step(t, p);
-            scan.offer(Move::Step(p as u16), yes);
-        }
-    }
-
-    fn scan_closes(&self, t: &Tables, scan: &mut Scan)
-        requires { scan.old.count ≤ 100000 }
-        ensures grows { scan.new.count ≤ scan.old.count + 64 }
-        ensures list { (w : ℕ) (xs : List rules.Move) → Scanned w xs scan.old → Scanned w (xs ++ each (closes_of (table t.now) (portless self.now)) (table t.now).places) scan.new }
-    {
-        for p in 0..t.place_count() {
-            let yes = self.can_close(t, p);
-            scan.offer(Move::Close(p as u16), yes);
-        }
-    }
-
-    fn scan_meets(&self, t: &Tables, scan: &mut Scan)
-        requires { scan.old.count ≤ 100000 }
-        ensures grows { scan.new.count ≤ scan.old.count + 128 }
-        ensures list { (w : ℕ) (xs : List rules.Move) → Scanned w xs scan.old → Scanned w (xs ++ each (meets_of (table t.now) (portless self.now)) (cells_of t.now)) scan.new }
-    {
-        for h in 0..t.cell_count() {
-            let yes = self.can_meet(t, h);
-            scan.offer(Move::Meet(h as u16), yes);
-        }
-    }
-
-    fn scan_poisons_of(&self, t: &Tables, p: usize, scan: &mut Scan)
-        requires inside { p < (table t.now).places }
-        requires few { scan.old.count ≤ 100000 }
-        ensures grows { scan.new.count ≤ scan.old.count + 128 }
-        ensures list { (w : ℕ) (xs : List rules.Move) → Scanned w xs scan.old → Scanned w (xs ++ poisons_of (table t.now) (portless self.now) (cells_of t.now) p) scan.new }
-    {
-        for h in 0..t.cell_count() {
-            let yes = self.can_poison(t, p, h);
-            scan.offer(Move::Poison(p as u16, h as u16), yes);
-        }
-    }
-
+    // The poisonings, in order.
     fn scan_poisons(&self, t: &Tables, scan: &mut Scan)
         requires { scan.old.count ≤ 1000 }
         ensures { (w : ℕ) (xs : List rules.Move) → Scanned w xs scan.old → Scanned w (xs ++ each (poisons_of (table t.now) (portless self.now) (cells_of t.now)) (table t.now).places) scan.new }
     {
         for p in 0..t.place_count() {
-            self.scan_poisons_of(t, p, scan);
+            scan.offer_each(t.cell_count(), |h| {
+                self.can_poison(t, p, h)
+                    .then_some(Move::Poison(p as u16, h as u16))
+            });
         }
     }
 
@@ -91,9 +63,16 @@ impl State {
             count: 0,
             found: None,
         };
-        self.scan_steps(t, &mut scan);
-        self.scan_closes(t, &mut scan);
-        self.scan_meets(t, &mut scan);
+        let places = t.place_count();
+        scan.offer_each(places, |p| {
+            self.can_step(t, p).then_some(Move::Step(p as u16))
+        });
+        scan.offer_each(places, |p| {
+            self.can_close(t, p).then_some(Move::Close(p as u16))
+        });
+        scan.offer_each(t.cell_count(), |h| {
+            self.can_meet(t, h).then_some(Move::Meet(h as u16))
+        });
         self.scan_poisons(t, &mut scan);
         scan
     }

@@ -6,6 +6,7 @@ ghost use Rattle.board.specs.Views.{local, marked, place};
 ghost use Rattle.board.specs.Effects.{PlaceAfter, After, MayMove};
 
 use crate::state::{Local, PlaceState, State};
+use std::array;
 use tables::tables::Tables;
 
 // Where a place goes that closes its par: with mark none after the par, with 0 it is poisoned, with k to the catch
@@ -31,13 +32,12 @@ fn closed(t: &Tables, p: usize, out: Local, q: usize, old: PlaceState) -> PlaceS
         PlaceState {
             at: out,
             mark: None,
-            steps: old.steps,
+            ..old
         }
     } else if t.child(p, q) {
         PlaceState {
             at: Local::Idle,
-            mark: old.mark,
-            steps: old.steps,
+            ..old
         }
     } else {
         old
@@ -52,10 +52,7 @@ impl State {
         ensures { After (close_effect (table t.now) p (closing (table t.now) (marked (place self.old p).mark) (local (place self.old p).at))) self.old self.new }
     {
         let out = after_close(t, self.places[p].at, self.places[p].mark);
-        for q in 0..64 {
-            let new = closed(t, p, out, q, self.places[q]);
-            self.places[q] = new;
-        }
+        self.places = array::from_fn(|q| closed(t, p, out, q, self.places[q]));
         self.total += 1;
     }
 }

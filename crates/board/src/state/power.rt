@@ -14,8 +14,7 @@ pub(crate) fn started(t: &Tables, q: usize, old: PlaceState) -> PlaceState
 {
     PlaceState {
         at: Local::Running(t.start(q)),
-        mark: old.mark,
-        steps: old.steps,
+        ..old
     }
 }
 
@@ -27,13 +26,8 @@ impl State {
         ensures bounded { Bounded result }
         ensures total { result.total ≡ 0 }
     {
-        let idle = PlaceState {
-            at: Local::Idle,
-            mark: None,
-            steps: 0,
-        };
-        let mut places = [idle; 64];
-        places[0] = started(t, 0, idle);
+        let mut places = [PlaceState::default(); 64];
+        places[0] = started(t, 0, places[0]);
         State {
             places,
             cells: [0; 128],

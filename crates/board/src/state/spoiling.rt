@@ -5,6 +5,7 @@ ghost use Rattle.tables.specs.Views.{table};
 ghost use Rattle.board.specs.Views.{local, place, portless, flags};
 ghost use Rattle.board.specs.Loops.{spoiled_child, spoiled_through, spoiled_one};
 
+use crate::state::answers::backward;
 use crate::state::{Local, State};
 use tables::tables::Tables;
 
@@ -21,16 +22,8 @@ impl State {
     fn spoiled_through(&self, t: &Tables, h: usize, q: usize, later: &[bool; 64]) -> bool
         ensures { result ≡ spoiled_through (table t.now) (portless self.now) h q (flags later.now) }
     {
-        let mut some = false;
-        for c in 1..t.place_count() {
-            if self.spoiled_child(t, q, c, later) {
-                return true;
-            }
-            if self.knowing_child(t, h, q, c) {
-                some = true;
-            }
-        }
-        !some
+        !self.some_child_knows(t, h, q)
+            || (1..t.place_count()).any(|c| self.spoiled_child(t, q, c, later))
     }
 
     // Whether `q` is spoiled for `h`, given the answers for the places after it: it knows `h`, and it is poisoned,
@@ -39,28 +32,23 @@ impl State {
         requires { q < 64 }
         ensures { result ≡ spoiled_one (table t.now) (portless self.now) h q (flags later.now) (local (place self.now q).at) }
     {
-        if !t.knows(q, h) {
-            return false;
-        }
-        match self.places[q].at {
-            Local::Poisoned => true,
-            Local::Parted(_) => match self.places[q].mark {
-                Some(0) => self.spoiled_through(t, h, q, later),
-                _ => false,
-            },
-            Local::Idle | Local::Running(_) | Local::Finished => false,
-        }
+        let place = self.places[q];
+        t.knows(q, h)
+            && match place.at {
+                Local::Poisoned => true,
+                Local::Parted(_) => {
+                    place.mark == Some(0) && self.spoiled_through(t, h, q, later)
+                }
+                Local::Idle | Local::Running(_) | Local::Finished => false,
+            }
     }
 
-    // Which places are spoiled for a home: from the last to the first, since children stand after their parents.
+    // Which places are spoiled for a home: by the answers for the places after it.
     pub fn spoiled(&self, t: &Tables, h: usize) -> [bool; 64]
         ensures { (q : ℕ) → q < (table t.now).places → slice_index_or result q false ≡ spoiled (table t.now) (portless self.now) h (table t.now).places q }
     {
-        let mut out = [false; 64];
-        for p in (0..t.place_count()).rev() {
-            let r = self.spoiled_one(t, h, p, &out);
-            out[p] = r;
-        }
-        out
+        backward(t.place_count(), |p, later| {
+            self.spoiled_one(t, h, p, later)
+        })
     }
 }

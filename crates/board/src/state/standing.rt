@@ -10,28 +10,19 @@ impl Local {
     pub fn is_live(self) -> bool
         ensures { result ≡ live (local self) }
     {
-        match self {
-            Local::Running(_) | Local::Parted(_) | Local::Poisoned => true,
-            Local::Idle | Local::Finished => false,
-        }
+        matches!(self, Local::Running(_) | Local::Parted(_) | Local::Poisoned)
     }
 
     // Whether the place runs or is parted.
     pub fn is_busy(self) -> bool
         ensures { result ≡ busy (local self) }
     {
-        match self {
-            Local::Running(_) | Local::Parted(_) => true,
-            Local::Idle | Local::Finished | Local::Poisoned => false,
-        }
+        matches!(self, Local::Running(_) | Local::Parted(_))
     }
 
     pub fn is_parted(self) -> bool
         ensures { result ≡ is_parted (local self) }
     {
-        match self {
-            Local::Parted(_) => true,
-            _ => false,
-        }
+        matches!(self, Local::Parted(_))
     }
 }

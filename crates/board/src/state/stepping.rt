@@ -3,6 +3,7 @@ ghost use Rattle.std.specs.Prelude.{◌≡◌, ℕ, ◌<◌, ◌≤◌, true, Li
 ghost use Rattle.std.proofs.Math.Option.{none};
 ghost use Rattle.rules.specs.Programs.{awaits};
 ghost use Rattle.rules.specs.Values.{value};
+ghost use Rattle.rules.specs.Answers.{limit};
 ghost use Rattle.rules.specs.States.{step};
 ghost use Rattle.rules.specs.Steps.{step_effect};
 ghost use Rattle.rules.specs.Moves.{effect};
@@ -28,14 +29,14 @@ impl State {
     fn step_to(&mut self, p: usize, at: Local)
         requires inside { p < 64 }
         requires few { (q : ℕ) → (place self.old q).steps ≤ self.old.total }
-        requires limit { self.old.total < 1000000000 }
+        requires under { self.old.total < limit }
         ensures { self.new ≡ stepped self.old p at }
     {
         let old = self.places[p];
         self.places[p] = PlaceState {
             at,
-            mark: old.mark,
             steps: old.steps + 1,
+            ..old
         };
         self.total += 1;
     }
@@ -56,8 +57,7 @@ impl State {
         ensures { self.new ≡ with_cells self.old (copied self.old.cells list.now) }
     {
         let old = self.cells;
-        for i in (0..list.len()).rev() {
-            let c = list[i];
+        for c in list.iter().rev() {
             self.cells[c.to] = old[c.from];
         }
     }
@@ -69,12 +69,12 @@ impl State {
     {
         for b in branches {
             let q = *b as usize;
-            let new = started(t, q, self.places[q]);
-            self.places[q] = new;
+            self.places[q] = started(t, q, self.places[q]);
         }
     }
 
     // One step of place `p`, which stands at the point `x`.
+    // One match over the kinds of statements, each of them in an arm here: a rule of the project.
     fn perform<K: NumberKind, B: Bank>(
         &mut self,
         t: &Tables,

@@ -1,17 +1,19 @@
 // A throw to a try of another place.
 ghost use Rattle.std.specs.Prelude.{◌≡◌, ℕ, ◌<◌};
+ghost use Rattle.rules.specs.Answers.{limit};
 ghost use Rattle.rules.specs.Steps.{raise, step_effect};
 ghost use Rattle.tables.specs.Views.{table};
 ghost use Rattle.board.specs.Effects.{PlaceAfter, After, MayMove};
 
 use crate::state::marks::lesser;
 use crate::state::{Local, PlaceState, State};
+use std::array;
 use tables::tables::Tables;
 
 // A place after a throw of `p` to the `k`-th try of `g`: `p` is poisoned, the places between get mark 0, and `g`
 // the lesser of its mark and `k`.
 fn thrown(t: &Tables, p: usize, g: usize, k: u16, q: usize, old: PlaceState) -> PlaceState
-    requires { old.steps < 1000000000 }
+    requires { old.steps < limit }
     ensures { PlaceAfter (step_effect (table t.now) p (raise g k)) q old result }
 {
     let mark = if q == g {
@@ -28,11 +30,7 @@ fn thrown(t: &Tables, p: usize, g: usize, k: u16, q: usize, old: PlaceState) -> 
             steps: old.steps + 1,
         }
     } else {
-        PlaceState {
-            at: old.at,
-            mark,
-            steps: old.steps,
-        }
+        PlaceState { mark, ..old }
     }
 }
 
@@ -44,10 +42,7 @@ impl State {
         requires counts { MayMove self.old }
         ensures { After (step_effect (table t.now) p (raise g k)) self.old self.new }
     {
-        for q in 0..64 {
-            let new = thrown(t, p, g, k, q, self.places[q]);
-            self.places[q] = new;
-        }
+        self.places = array::from_fn(|q| thrown(t, p, g, k, q, self.places[q]));
         self.total += 1;
     }
 }

@@ -25,10 +25,10 @@ impl<K: NumberKind, B: Bank> Board<K, B> {
     pub fn permitted_at(&self, index: usize) -> Result<MoveName, Refusal>
         ensures { Told result (nth (listing (table self.now.tables) (portless self.now.state) (cells_of self.now.tables)) index) }
     {
-        match self.state.permitted_at(&self.tables, index) {
-            Some(m) => Ok(m.name()),
-            None => Err(Refusal::NoSuch),
-        }
+        self.state
+            .permitted_at(&self.tables, index)
+            .map(|m| m.name())
+            .ok_or(Refusal::NoSuch)
     }
 
     // The verdict is finished if place 0 is, else deadlock at rest, else moving.

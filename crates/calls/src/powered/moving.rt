@@ -1,13 +1,14 @@
 // Making a named move.
 ghost use Rattle.std.specs.Prelude.{◌≡◌, ℕ, ◌<◌, true};
 ghost use Rattle.rules.specs.Moves.{made};
+ghost use Rattle.rules.specs.Answers.{limit};
 ghost use Rattle.rules.specs.Names.{Exists};
 ghost use Rattle.rules.specs.Tests.{permitted};
 ghost use Rattle.tables.specs.Views.{table, cells_of, move};
 ghost use Rattle.board.specs.Views.{portless};
 ghost use Rattle.calls.specs.Boards.{state_of, Moved};
 
-use crate::powered::Board;
+use crate::powered::{Board, LIMIT};
 use banks::bank::Bank;
 use numbers::kind::NumberKind;
 use rules::answers::Refusal;
@@ -22,7 +23,7 @@ impl<K: NumberKind, B: Bank> Board<K, B> {
         let Some(m) = self.tables.move_of(kind, a, b) else {
             return Err(Refusal::NoSuch);
         };
-        if self.state.total >= 1000000000 {
+        if self.state.total >= LIMIT {
             return Err(Refusal::Limit);
         }
         if !self.state.permits(&self.tables, m) {
@@ -35,7 +36,7 @@ impl<K: NumberKind, B: Bank> Board<K, B> {
     // Makes a permitted move.
     pub(crate) fn grant(&mut self, m: Move)
         requires exists { Exists (table self.old.tables) (cells_of self.old.tables) (move m) }
-        requires under { self.old.state.total < 1000000000 }
+        requires under { self.old.state.total < limit }
         requires permitted { permitted (table self.old.tables) (portless self.old.state) (move m) ≡ true }
         ensures view { state_of B.Bank.words self.new ≡ made K.NumberKind.meaning (table self.old.tables) (state_of B.Bank.words self.old) (move m) }
         ensures tables { self.new.tables ≡ self.old.tables }

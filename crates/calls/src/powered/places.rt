@@ -13,15 +13,17 @@ use rules::answers::Refusal;
 use tables::tables::Tables;
 
 // Which of the five it is.
-fn condition_of(at: Local) -> Condition
-    ensures { result ≡ condition (local at) }
-{
-    match at {
-        Local::Idle => Condition::Idle,
-        Local::Running(_) => Condition::Running,
-        Local::Parted(_) => Condition::Parted,
-        Local::Finished => Condition::Finished,
-        Local::Poisoned => Condition::Poisoned,
+impl From<Local> for Condition {
+    ghost from_gives = { λ at c. c ≡ condition (local at) };
+
+    fn from(at: Local) -> Condition {
+        match at {
+            Local::Idle => Condition::Idle,
+            Local::Running(_) => Condition::Running,
+            Local::Parted(_) => Condition::Parted,
+            Local::Finished => Condition::Finished,
+            Local::Poisoned => Condition::Poisoned,
+        }
     }
 }
 
@@ -29,12 +31,9 @@ fn condition_of(at: Local) -> Condition
 fn awaited_home(t: &Tables, at: Local) -> Option<u16>
     ensures { marked result ≡ waits_for (table t.now) (local at) }
 {
-    let Local::Running(x) = at else {
-        return None;
-    };
-    match t.awaits(x) {
-        Some((_, home)) => Some(home),
-        None => None,
+    match at {
+        Local::Running(x) => t.awaits(x).map(|(_, home)| home),
+        _ => None,
     }
 }
 
@@ -48,7 +47,7 @@ impl<K: NumberKind, B: Bank> Board<K, B> {
         }
         let place = self.state.places[q];
         Ok(PlaceLook {
-            condition: condition_of(place.at),
+            condition: Condition::from(place.at),
             on: awaited_home(&self.tables, place.at),
             mark: place.mark,
             steps: place.steps,

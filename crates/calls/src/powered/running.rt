@@ -2,25 +2,32 @@
 ghost use Rattle.std.specs.Prelude.{◌≡◌};
 ghost use Rattle.tables.specs.Views.{table, cells_of};
 ghost use Rattle.board.specs.Views.{portless};
-ghost use Rattle.calls.specs.Boards.{RunTells, last_stop};
+ghost use Rattle.calls.specs.Boards.{RunTells, Stops, last_stop};
 
-use crate::powered::Board;
+use crate::powered::{Board, LIMIT};
 use banks::bank::Bank;
 use numbers::kind::NumberKind;
 use rules::answers::Stop;
 
 impl<K: NumberKind, B: Bank> Board<K, B> {
+    // Why a board grants no move of `n` permitted ones: at rest, or at the limit, named in that order.
+    fn stop(&self, n: usize) -> Option<Stop>
+        ensures { Stops n self.now.state.total result }
+    {
+        if n == 0 {
+            Some(Stop::Rest)
+        } else if self.state.total >= LIMIT {
+            Some(Stop::Limit)
+        } else {
+            None
+        }
+    }
+
     // Why a run stops whose choices are used up: at rest, at the limit, or at the list's end, named in that order.
     fn last_stop(&self) -> Stop
         ensures { result ≡ last_stop (table self.now.tables) (cells_of self.now.tables) (portless self.now.state) }
     {
-        if self.permitted() == 0 {
-            Stop::Rest
-        } else if self.state.total < 1000000000 {
-            Stop::End
-        } else {
-            Stop::Limit
-        }
+        self.stop(self.permitted()).unwrap_or(Stop::End)
     }
 
     // Grants, for each choice, the permitted move at that index modulo their number. Tells how many it granted, and
@@ -31,11 +38,8 @@ impl<K: NumberKind, B: Bank> Board<K, B> {
         let mut granted = 0;
         for choice in choices {
             let n = self.permitted();
-            if n == 0 {
-                return (granted, Stop::Rest);
-            }
-            if self.state.total >= 1000000000 {
-                return (granted, Stop::Limit);
+            if let Some(stop) = self.stop(n) {
+                return (granted, stop);
             }
             let Some(m) = self.state.permitted_at(&self.tables, *choice as usize % n) else {
                 return (granted, Stop::Rest);

@@ -1,9 +1,9 @@
-// What a move is named.
+// Kinds by their numbers, and what a move is named.
 ghost use Rattle.std.specs.Prelude.{◌≡◌};
 ghost use Rattle.rules.specs.Names.{name_of};
-ghost use Rattle.tables.specs.Views.{move, kind_number, name};
+ghost use Rattle.tables.specs.Views.{move, kind_number, KindOf, name};
 
-use crate::moves::{Move, MoveKind, MoveName};
+use crate::moves::{Move, MoveKind, MoveName, UnknownKind};
 
 impl MoveKind {
     // The number of a kind.
@@ -14,31 +14,36 @@ impl MoveKind {
     }
 }
 
+impl TryFrom<u32> for MoveKind {
+    type Error = UnknownKind;
+
+    ghost try_from_gives = { KindOf };
+
+    fn try_from(number: u32) -> Result<Self, UnknownKind> {
+        match number {
+            0 => Ok(MoveKind::Step),
+            1 => Ok(MoveKind::Close),
+            2 => Ok(MoveKind::Meet),
+            3 => Ok(MoveKind::Poison),
+            _ => Err(UnknownKind(number)),
+        }
+    }
+}
+
 impl Move {
     pub fn name(self) -> MoveName
         ensures { name result ≡ name_of (move self) }
     {
-        match self {
-            Move::Step(p) => MoveName {
-                kind: MoveKind::Step,
-                first: p,
-                second: 0,
-            },
-            Move::Close(p) => MoveName {
-                kind: MoveKind::Close,
-                first: p,
-                second: 0,
-            },
-            Move::Meet(h) => MoveName {
-                kind: MoveKind::Meet,
-                first: h,
-                second: 0,
-            },
-            Move::Poison(p, h) => MoveName {
-                kind: MoveKind::Poison,
-                first: p,
-                second: h,
-            },
+        let (kind, first, second) = match self {
+            Move::Step(p) => (MoveKind::Step, p, 0),
+            Move::Close(p) => (MoveKind::Close, p, 0),
+            Move::Meet(h) => (MoveKind::Meet, h, 0),
+            Move::Poison(p, h) => (MoveKind::Poison, p, h),
+        };
+        MoveName {
+            kind,
+            first,
+            second,
         }
     }
 }

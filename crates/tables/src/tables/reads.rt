@@ -8,17 +8,10 @@ ghost use Rattle.tables.specs.Fit.{no_place};
 ghost use Rattle.tables.specs.Stms.{stm, offset_at, no_cell, recorded, got_is, RowAt, PastRows};
 ghost use Rattle.tables.specs.Views.{table, awaited, cells_of, move, moved};
 
-use crate::moves::Move;
+use crate::moves::{Move, MoveKind};
 use crate::rows::{Cell, Got, Place, Point};
 use crate::stmt::Stmt;
 use crate::tables::Tables;
-
-// The item at an index, or 0.
-fn item_or_zero(list: &[u16], j: usize) -> u16
-    ensures { result ≡ slice_index list.now j }
-{
-    if j < list.len() { list[j] } else { 0 }
-}
 
 // The own cell and the home of a next.
 fn next_of(stmt: &Stmt) -> Option<(u16, u16)>
@@ -42,39 +35,14 @@ impl Tables {
     fn place_row(&self, q: usize) -> Place
         ensures { result ≡ slice_index_or self.now.places.items q no_place }
     {
-        if q < self.places.len() {
-            self.places[q]
-        } else {
-            Place {
-                parent: 0,
-                under: 0,
-                start: 0,
-            }
-        }
+        self.places.get(q).copied().unwrap_or_default()
     }
 
     // The row of a cell; past the last one a row of zeros.
     fn cell_row(&self, c: usize) -> Cell
         ensures { result ≡ slice_index_or self.now.cells.items c no_cell }
     {
-        if c < self.cells.len() {
-            self.cells[c]
-        } else {
-            Cell {
-                home: 0,
-                declarer: 0,
-                at: 0,
-                len: 0,
-            }
-        }
-    }
-
-    // The row of a point that there is.
-    fn point_row(&self, i: usize) -> &Point
-        requires { i < vec_len self.now.points }
-        ensures { RowAt self.now.points.items i result.now }
-    {
-        &self.points[i]
+        self.cells.get(c).copied().unwrap_or_default()
     }
 
     // How many places there are.
@@ -126,13 +94,7 @@ impl Tables {
     pub fn knows(&self, q: usize, h: usize) -> bool
         ensures { result ≡ (table self.now).knows q h }
     {
-        for i in 0..self.got.len() {
-            let g = self.got[i];
-            if is_got(g, q, h) {
-                return true;
-            }
-        }
-        false
+        self.got.iter().any(|g| is_got(*g, q, h))
     }
 
     // How many cells there are.
@@ -162,12 +124,7 @@ impl Tables {
     pub fn recorded_name(&self, c: usize) -> Option<(usize, usize)>
         ensures { result ≡ recorded self.now.cells.items c }
     {
-        if c < self.cells.len() {
-            let cell = self.cell_row(c);
-            Some((cell.at, cell.len))
-        } else {
-            None
-        }
+        self.cells.get(c).map(|cell| (cell.at, cell.len))
     }
 
     // Whether a number is a home of the board.
@@ -186,11 +143,13 @@ impl Tables {
     {
         let p = a as usize;
         let placed = p < self.place_count();
-        match kind {
-            0 if placed && b == 0 => Some(Move::Step(p as u16)),
-            1 if placed && b == 0 => Some(Move::Close(p as u16)),
-            2 if self.is_home(p) && b == 0 => Some(Move::Meet(p as u16)),
-            3 if placed && self.is_home(b as usize) => Some(Move::Poison(p as u16, b as u16)),
+        match MoveKind::try_from(kind).ok()? {
+            MoveKind::Step if placed && b == 0 => Some(Move::Step(p as u16)),
+            MoveKind::Close if placed && b == 0 => Some(Move::Close(p as u16)),
+            MoveKind::Meet if self.is_home(p) && b == 0 => Some(Move::Meet(p as u16)),
+            MoveKind::Poison if placed && self.is_home(b as usize) => {
+                Some(Move::Poison(p as u16, b as u16))
+            }
             _ => None,
         }
     }
@@ -199,42 +158,30 @@ impl Tables {
     pub fn point(&self, x: u16) -> Option<&Point>
         ensures { MatchOption result (PastRows self.now.points.items x) (λ p. RowAt self.now.points.items x p.now) }
     {
-        let i = x as usize;
-        if i < self.points.len() {
-            Some(self.point_row(i))
-        } else {
-            None
-        }
+        self.points.get(x as usize)
     }
 
     // The point after the statement at a point.
     pub fn after(&self, x: u16) -> u16
         ensures { result ≡ (table self.now).after x }
     {
-        match self.point(x) {
-            Some(point) => point.after,
-            None => 0,
-        }
+        self.point(x).map_or(0, |point| point.after)
     }
 
     // The offset in the text of the statement at a point.
     pub fn offset(&self, x: u16) -> usize
         ensures { result ≡ offset_at self.now.points.items x }
     {
-        match self.point(x) {
-            Some(point) => point.offset,
-            None => 0,
-        }
+        self.point(x).map_or(0, |point| point.offset)
     }
 
     // The catch block of the try `j` from outside, counted from 0, that is open at the par at `x`.
     pub fn catch_block(&self, x: u16, j: usize) -> u16
         ensures { result ≡ slice_index ((table self.now).catches x) j }
     {
-        match self.point(x) {
-            Some(point) => item_or_zero(point.catches.as_slice(), j),
-            None => 0,
-        }
+        self.point(x).map_or(0, |point| {
+            point.catches.get(j).copied().unwrap_or_default()
+        })
     }
 
     // The own cell and the home of the next at a point, if one stands there.
@@ -242,9 +189,6 @@ impl Tables {
         ensures is { awaited result ≡ awaits ((table self.now).stm x) }
         ensures named { IfSome result (λ d. d.0 < 128) }
     {
-        match self.point(x) {
-            Some(point) => next_of(&point.stmt),
-            None => None,
-        }
+        self.point(x).and_then(|point| next_of(&point.stmt))
     }
 }

@@ -1,27 +1,28 @@
-use Rattle.std.proofs.Common.{◌≡◌, ◌-◌, ◌≤◌, false, get_or, sym, ◌∙◌, arith}
-use Rattle.std.proofs.lemmas.Bool.Decides.{nat_tests}
-use Rattle.numbers.specs.Literals.{is_digit}
-use Rattle.numbers.proofs.Literals.{read_digit, read_other, read_done, value_grows}
+use Rattle.std.proofs.Common.{◌≡◌, sym, ◌∙◌, rules, true}
+use Rattle.numbers.specs.Literals.{all_digits}
+use Rattle.numbers.proofs.Literals.{all_listed, too_long, no_digits, is_text, read_digits}
 use Rattle.numbers.proofs.literal.literal_value.Goals as goal
+use Rattle.numbers.proofs.literal.literal_value.Goals.{then-digits-gt10-via-then-digits-gt10, then-digits-gt10-via-else-digits-gt10+then-not-are_digits}
 
-pub returns-then-not-is_ascii_digit : goal.returns-then-not-is_ascii_digit
-returns-then-not-is_ascii_digit c =
-    let ds = c.args.digits.now in
-    let i = c.loop-digit.digit-index in
-    let other : is_digit (get_or ds i 0) ≡ false = grind (arith, nat_tests) in
-    sym (c.loop-digit.invariant.2 ∙ read_other c.loop-digit.value i ds (omega arith) other)
+pub returns-then-digits-gt10 : goal.returns-then-digits-gt10
+returns-then-digits-gt10 c =
+    let bs = c.args.digits.now in
+    elim c.then-digits-gt10.branch [
+      | then-digits-gt10-via-then-digits-gt10 w ↦ sym (too_long bs w.if-digits-gt10.true)
+      | then-digits-gt10-via-else-digits-gt10+then-not-are_digits w ↦ sym (no_digits bs (sym (all_listed bs) ∙ sym w.if-not-are_digits.ensures))
+    ]
 
-pub loop-digit-preserved : goal.loop-digit-preserved
-loop-digit-preserved c =
-    let ds = c.args.digits.now in
-    let i = c.loop-digit.digit-index in
-    let d = get_or ds i 0 in
-    let low : 48 ≤ d = grind (arith, nat_tests) in
-    let high : d ≤ 57 = grind (arith, nat_tests) in (
-      value_grows c.loop-digit.value (d - 48) i (omega arith) (omega arith),
-      omega arith,
-      c.loop-digit.invariant.2 ∙ read_digit c.loop-digit.value i ds (omega arith) low high,
-    )
+pub returns-in_err-ok : goal.returns-in_err-ok
+returns-in_err-ok c =
+    let bs = c.args.digits.now in
+    let all : all_digits bs ≡ true = sym (all_listed bs) ∙ sym c.if-not-are_digits.ensures in
+    let text = is_text bs all in
+    search rules
 
 pub returns : goal.returns
-returns c = sym (c.loop-digit.invariant.2 ∙ read_done c.loop-digit.value c.loop-digit.digit-index c.args.digits.now (omega arith))
+returns c =
+    let bs = c.args.digits.now in
+    let all : all_digits bs ≡ true = sym (all_listed bs) ∙ sym c.if-not-are_digits.ensures in
+    let same : c.in_ok-ok.field-0.now ≡ bs = search rules in
+    let r = rw same at c.parse.ensures.value.0 in
+    c.ok-2.ensures.value ∙ read_digits bs c.parse.result r c.if-digits-gt10.false all

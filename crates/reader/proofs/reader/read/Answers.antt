@@ -1,6 +1,9 @@
 use Rattle.std.proofs.Common.{◌≡◌, ℕ, ◌<◌, ◌≤◌, List, [], ◌∷◌, ◌++◌, length, Err, vec_items, sym, ◌∙◌, subst, arith}
 use Rattle.std.proofs.lemmas.Result.{err_from_is_err_and}
+use denote.Enum.Bare.{same_true, same_false}
+use Rattle.reader.specs.contracts.token.Tag.{the_type}
 use Rattle.reader.specs.declared.token.Token.{Token}
+use Rattle.reader.specs.declared.token.Tag.TheVariants.{End}
 use Rattle.reader.specs.Language.{Laid}
 use Rattle.reader.specs.Lists.{Ended}
 use Rattle.reader.specs.Views.{lexemes}
@@ -20,32 +23,33 @@ returns-in_err-token c =
     let p = err_from_is_err_and c.from_residual-in_err-token.result c.from_residual-in_err-token.ensures.1 in
     rw (p.1, p.2) (record { exact = exact_err text f c.loop-found.invariant.1 (faulty text at (vec_items c.loop-found.found) h c.loop-found.invariant.2 f s); laid = tt; ended = tt })
 
-last_turn : (c : goal.In-End) → Turn c.args.text.now c.loop-found.reader.at (vec_items c.loop-found.found) c.in_ok-token.token
+last_turn : (c : goal.Then-eq) → Turn c.args.text.now c.loop-found.reader.at (vec_items c.loop-found.found) c.in_ok-token.token
 last_turn c =
     turn c.loop-found.reader.text.now c.args.text.now c.loop-found.reader.at (vec_items c.loop-found.found) c.in_ok-token.token
     c.loop-found.invariant.0 c.loop-found.reader.within c.loop-found.invariant.2 c.in_ok-token.ensures.token
 
-pub returns-in-End : goal.returns-in-End
-returns-in-End c =
+pub returns-then-eq : goal.returns-then-eq
+returns-then-eq c =
     let text = c.args.text.now in
     let at = c.loop-found.reader.at in
     let ts = vec_items c.loop-found.found in
     let t = c.in_ok-token.token in
     let n = last_turn c in
+    let is_end : t.tag ≡ End = same_true the_type tt _ _ (sym c.eq.ensures ∙ c.if-eq.true) in
     let p : vec_items c.push.new.self ≡ ts ++ (t ∷ []) = c.in_ok-push.ensures.items in
-    let e = all_read text at ts n.inside n.going t n.shows c.in-End.is in
+    let e = all_read text at ts n.inside n.going t n.shows is_end in
     record {
       exact = exact_ok text c.push.new.self (ts ++ (t ∷ [])) c.loop-found.invariant.1 p e;
       laid = subst (λ (l : List Token). Laid 0 text (lexemes text l)) (sym p) (tokens_are_longest_lem text (lexemes text (ts ++ (t ∷ []))) (tokenized_is text c.loop-found.invariant.1 ∙ e)).1;
-      ended = subst (λ (l : List Token). Ended text l) (sym p) (ended text at ts n.inside n.going t n.shows c.loop-found.invariant.1 c.in-End.is);
+      ended = subst (λ (l : List Token). Ended text l) (sym p) (ended text at ts n.inside n.going t n.shows c.loop-found.invariant.1 is_end);
     }
 
-next_turn : (c : goal.In_default) → (c.loop-found.reader.at < c.next.new.self.at) × Going c.args.text.now c.next.new.self.at (vec_items c.push.new.self)
+next_turn : (c : goal.Else-eq) → (c.loop-found.reader.at < c.next.new.self.at) × Going c.args.text.now c.next.new.self.at (vec_items c.push.new.self)
 next_turn c =
     again c.loop-found.reader.text.now c.args.text.now c.loop-found.reader.at c.next.new.self.at (vec_items c.loop-found.found) (vec_items c.push.new.self) c.in_ok-token.token
     (turn c.loop-found.reader.text.now c.args.text.now c.loop-found.reader.at (vec_items c.loop-found.found) c.in_ok-token.token
     c.loop-found.invariant.0 c.loop-found.reader.within c.loop-found.invariant.2 c.in_ok-token.ensures.token)
-    c.in_default.not-End c.loop-found.invariant.0 c.in_ok-token.ensures.stands c.in_ok-push.ensures.items
+    (same_false the_type _ _ (sym c.eq.ensures ∙ c.if-eq.false)) c.loop-found.invariant.0 c.in_ok-token.ensures.stands c.in_ok-push.ensures.items
 
 pub loop-found-smaller : goal.loop-found-smaller
 loop-found-smaller c =

@@ -18,5 +18,5 @@ pub returns-in-Separator : goal.returns-in-Separator
 returns-in-Separator c =
     elim c.in-Separator.is [
       | inl e ↦ separator_here c.args.text.now c.args.at c.requires.within c.requires.token_byte (sym e ∙ c.begins.ensures)
-      | inr e ↦ nothing_here c.args.text.now c.args.at c.requires.within c.no_token.result c.no_token.ensures (sym e ∙ c.begins.ensures)
+      | inr e ↦ nothing_here c.args.text.now c.args.at c.requires.within c.at.result c.at.ensures (sym e ∙ c.begins.ensures)
     ]

@@ -1,10 +1,7 @@
 use Rattle.banks.proofs.tape.TapeBank.take.Goals as goal
-use Rattle.std.proofs.Common.{arith}
-use Rattle.std.proofs.lemmas.Bool.Decides.{nat_tests}
-use Rattle.std.proofs.lemmas.List.{get_or-set_same, get_or-set_other}
-use Rattle.std.proofs.lemmas.Bool.{cases_eq}
-use Rattle.banks.proofs.Ports.{stretch_more}
+use Rattle.banks.proofs.Ports.{taken_behind}
 
--- src/tape.rt:30:5
-pub returns : goal.returns
-returns c = record { first = grind (arith, nat_tests, stretch_more); rest = λ p. grind (arith, nat_tests, stretch_more, get_or-set_same, get_or-set_other, cases_eq p c.args.port) }
+pub returns-clause-rest : goal.returns-clause-rest
+returns-clause-rest c =
+    let found = c.in_ok-get.ensures.lookup in
+    taken_behind (λ s. s.now) c.args.self.now.ports c.args.port c.in_ok-word.field-0-0.now c.in_ok-get.field-0.now c.in_ok-word.rest found.3.0 found.1 c.in_ok-word.ensures.cases.0

@@ -18,7 +18,7 @@ returns c =
     let p = c.args.p in
     let sp = spoiled_sibling t s p (spoiled t s h t.places) in
     and_3 (eqb (t.home h) h) (t.knows p h) (ready t s h t.places p) (any_below t.places sp) _
-    (eq-eqb _ _ (omega arith)) (sym c.if-not-knows.ensures) (sym (c.ready-ready.ensures p c.requires) ∙ c.if-not-ready-p.false)
+    (eq-eqb _ _ (omega arith)) (sym c.if-not-knows.ensures) (sym (c.ready.ensures p c.requires) ∙ c.if-not-ready-p.false)
     (c.some_spoiled_sibling.ensures
-    ∙ any_same t.places (spoiled_sibling t s p (flags c.spoiled-spoiled.result)) sp
-    (λ q l. ap (λ b. not (eqb q p) && (child t (t.parent p) q && (live (s.at q) && b))) (c.spoiled-spoiled.ensures q l)))
+    ∙ any_same t.places (spoiled_sibling t s p (flags c.spoiled.result)) sp
+    (λ q l. ap (λ b. not (eqb q p) && (child t (t.parent p) q && (live (s.at q) && b))) (c.spoiled.ensures q l)))

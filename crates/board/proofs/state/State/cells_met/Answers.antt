@@ -6,7 +6,7 @@ use Rattle.board.proofs.state.State.cells_met.Goals as goal
 use Rattle.board.proofs.state.State.cells_met.Goals.{in-Some, in_default}
 
 pub loop-q-init : goal.loop-q-init
-loop-q-init c = (c.requires.1, λ k. refl)
+loop-q-init c = (omega arith, λ k. refl)
 
 pub loop-q-preserved : goal.loop-q-preserved
 loop-q-preserved c =

@@ -1,28 +1,47 @@
-use Rattle.std.proofs.Common.{◌-◌, length, get_or, set, sym, ap, ◌∙◌, arith}
-use Rattle.std.proofs.lemmas.List.{at_drop_all}
+use Rattle.std.proofs.Common.{◌≡◌, ◌++◌, get_or, set, sym, ap, ◌∙◌, rules}
+use Rattle.std.proofs.lemmas.List.{append-nil}
+use Rattle.std.specs.Iterator.Adapters.{rev_source}
+use Rattle.std.specs.Slice.Iter.{iter_rest}
 use Rattle.board.specs.declared.state.State.{State}
 use Rattle.board.specs.Effects.{with_cells, copied}
-use Rattle.board.proofs.Copying.{copies_at, copied_more, no_copy}
+use Rattle.board.proofs.Copying.{all_left, next_drop, split_next, copy_in}
 use Rattle.board.proofs.state.State.copy.Goals as goal
 
-pub loop-i-init : goal.loop-i-init
-loop-i-init c = ap (with_cells c.args.self.now) (sym (at_drop_all (copied c.args.self.now.cells) c.args.list.now (length c.args.list.now) (omega arith)))
+pub loop-c-init : goal.loop-c-init
+loop-c-init c =
+    let list = c.args.list.now in
+    let rest = iter_rest (rev_source c.into_iter-c-iterator.result) in
+    let e : rest ≡ list = search rules in
+    let none = all_left list rest e in
+    record {
+      split = ap (λ v. rest ++ v) none ∙ append-nil rest ∙ e;
+      made = ap (λ v. with_cells c.args.self.now (copied c.args.self.now.cells v)) (sym none);
+    }
 
 pub bounds-old-c : goal.bounds-old-c
-bounds-old-c c = (copies_at c.args.list.now (c.loop-i.i - 1) c.requires (omega arith)).1
+bounds-old-c c =
+    (copy_in c.args.list.now (iter_rest (rev_source c.loop-c.c-iterator)) (iter_rest (rev_source c.next.new.self)) c.in-Some.c.now c.loop-c.invariant.split c.in-Some.ensures.steps c.requires).1
 
 pub bounds-self-c : goal.bounds-self-c
-bounds-self-c c = (copies_at c.args.list.now (c.loop-i.i - 1) c.requires (omega arith)).0
+bounds-self-c c =
+    (copy_in c.args.list.now (iter_rest (rev_source c.loop-c.c-iterator)) (iter_rest (rev_source c.next.new.self)) c.in-Some.c.now c.loop-c.invariant.split c.in-Some.ensures.steps c.requires).0
 
 pub offset_bounds-old-c : goal.offset_bounds-old-c
-offset_bounds-old-c c = let h = copies_at c.args.list.now (c.loop-i.i - 1) c.requires (omega arith) in omega (arith, h.1)
+offset_bounds-old-c c = let h = copy_in c.args.list.now (iter_rest (rev_source c.loop-c.c-iterator)) (iter_rest (rev_source c.next.new.self)) c.in-Some.c.now c.loop-c.invariant.split c.in-Some.ensures.steps c.requires in omega (arith, h.1)
 
 pub offset_bounds-self-c : goal.offset_bounds-self-c
-offset_bounds-self-c c = let h = copies_at c.args.list.now (c.loop-i.i - 1) c.requires (omega arith) in omega (arith, h.0)
+offset_bounds-self-c c = let h = copy_in c.args.list.now (iter_rest (rev_source c.loop-c.c-iterator)) (iter_rest (rev_source c.next.new.self)) c.in-Some.c.now c.loop-c.invariant.split c.in-Some.ensures.steps c.requires in omega (arith, h.0)
 
-pub loop-i-preserved : goal.loop-i-preserved
-loop-i-preserved c =
-    let e = c.args.self.now in
-    let x = get_or c.args.list.now (c.loop-i.i - 1) no_copy in
-    ap (λ (s : State). with_cells s (set s.cells x.to (get_or e.cells x.from 0))) c.loop-i.invariant
-    ∙ ap (with_cells e) (sym (copied_more e.cells c.args.list.now c.loop-i.i (c.loop-i.i - 1) (omega arith) (omega arith)))
+pub loop-c-preserved : goal.loop-c-preserved
+loop-c-preserved c =
+    let list = c.args.list.now in
+    let rest = iter_rest (rev_source c.loop-c.c-iterator) in
+    let left = iter_rest (rev_source c.next.new.self) in
+    let x = c.in-Some.c.now in
+    let old = c.args.self.now.cells in
+    record {
+      split = split_next list rest left x c.loop-c.invariant.split c.in-Some.ensures.steps;
+      made =
+          ap (λ (s : State). with_cells s (set s.cells x.to (get_or old x.from 0))) c.loop-c.invariant.made
+          ∙ ap (λ v. with_cells c.args.self.now (copied old v)) (sym (next_drop list rest left x c.loop-c.invariant.split c.in-Some.ensures.steps));
+    }

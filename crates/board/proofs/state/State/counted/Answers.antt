@@ -8,5 +8,5 @@ pub loop-q-preserved : goal.loop-q-preserved
 loop-q-preserved c = (
   simp length-set c.loop-q.invariant.0,
   counted_more (table c.args.t.now) c.args.t.now.lower (portless c.args.self.now) c.args.h c.args.p
-      c.loop-q.out c.loop-q.q _ (omega arith) c.loop-q.invariant.1 c.counted_one-c.ensures,
+      c.loop-q.out c.loop-q.q _ (omega arith) c.loop-q.invariant.1 c.counted_one.ensures,
 )

@@ -18,9 +18,9 @@ loop-b-preserved c =
     let st = (table c.args.t.now).start in
     let ps = c.loop-b.self.places in
     let b = get_or c.args.branches.now c.loop-b.b-index 0 in (
-      ap (λ (s : State). with_places s (set ps b c.started-new.result)) c.loop-b.invariant.0,
+      ap (λ (s : State). with_places s (set ps b c.started.result)) c.loop-b.invariant.0,
       c.loop-b.invariant.1 ∙ at_drop_more (forked st ps) c.args.branches.now c.loop-b.b-index 0 (omega arith)
-          ∙ ap (λ (v : PlaceState). forked st (set ps b v) (drop (c.loop-b.b-index + 1) c.args.branches.now)) (sym c.started-new.ensures),
+          ∙ ap (λ (v : PlaceState). forked st (set ps b v) (drop (c.loop-b.b-index + 1) c.args.branches.now)) (sym c.started.ensures),
     )
 
 pub returns : goal.returns

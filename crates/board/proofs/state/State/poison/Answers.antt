@@ -1,29 +1,23 @@
-use Rattle.std.proofs.Common.{set, sym, refl, ap, arith}
+use Rattle.std.proofs.Common.{ℕ, ◌+◌, ◌<◌, refl, rules, arith}
 use Rattle.rules.specs.Readiness.{counted}
 use Rattle.rules.specs.Moves.{poison_effect}
 use Rattle.board.specs.declared.state.State.{State}
 use Rattle.tables.specs.Views.{table}
-use Rattle.board.specs.Views.{portless, flags}
-use Rattle.board.specs.Effects.{with_places, observed_by}
-use Rattle.board.proofs.Sweeps.{swept_none, swept_more, swept_after, poison_past, poison_at, observed_same}
+use Rattle.board.specs.Views.{idle_place, local, place, portless, flags}
+use Rattle.board.specs.Effects.{Shaped, PlaceAfter, observed_if, observed_by}
+use Rattle.board.proofs.Sweeps.{made, swept_after, observed_as, poison_past, poison_at}
 use Rattle.board.proofs.state.State.poison.Goals as goal
-
-pub loop-q-init : goal.loop-q-init
-loop-q-init c = (refl, swept_none _ _ c.requires.counts.0.0)
-
-pub loop-q-preserved : goal.loop-q-preserved
-loop-q-preserved c = (
-  ap (λ (s : State). with_places s (set c.loop-q.self.places c.loop-q.q c.poisoned-new.result)) c.loop-q.invariant.0,
-  swept_more (poison_effect (observed_by (counted (table c.args.t.now) (portless c.args.self.now) c.args.h c.args.p) (portless c.args.self.now))) _ c.loop-q.q c.loop-q.self.places c.poisoned-new.result c.loop-q.invariant.1 c.loop-q-test.true
-      (poison_at (observed_by (counted (table c.args.t.now) (portless c.args.self.now) c.args.h c.args.p) (portless c.args.self.now)) c.loop-q.q _ _
-      (observed_same (poison_effect (observed_by (counted (table c.args.t.now) (portless c.args.self.now) c.args.h c.args.p) (portless c.args.self.now))) c.args.self.now c.loop-q.self c.loop-q.q (counted (table c.args.t.now) (portless c.args.self.now) c.args.h c.args.p) (flags c.counted-counted.result) c.loop-q.invariant.1 (sym (c.counted-counted.ensures c.loop-q.q c.loop-q-test.true)))
-      _ _ (c.poisoned-new.ensures c.loop-q.q)),
-)
-
-pub overflow_add-self : goal.overflow_add-self
-overflow_add-self c = omega (arith, ap (λ (s : State). s.total) c.loop-q.invariant.0)
 
 pub returns : goal.returns
 returns c =
-    swept_after (poison_effect (observed_by (counted (table c.args.t.now) (portless c.args.self.now) c.args.h c.args.p) (portless c.args.self.now))) c.args.self.now c.loop-q.self c.loop-q.q c.requires.counts.0 c.loop-q.invariant.0 c.loop-q.invariant.1 c.loop-q-test.false
-    (poison_past c.args.self.now c.requires.counts.0 (counted (table c.args.t.now) (portless c.args.self.now) c.args.h c.args.p)) (λ k. refl) (λ k. refl)
+    let s = c.args.self.now in
+    let shaped : Shaped s = (omega arith, omega arith, omega arith) in
+    let r : State = record { places = c.from_fn-self.result; cells = s.cells; meets = s.meets; total = s.total + 1 } in
+    let f = counted (table c.args.t.now) (portless s) c.args.h c.args.p in
+    let b = flags c.counted-counted.result in
+    let v = observed_by f (portless s) in
+    let each : (k : ℕ) → k < 64 → PlaceAfter (poison_effect (observed_if (b k) (local (place s k).at))) 0 (place s k) (place r k) =
+    made (λ k y. PlaceAfter (poison_effect (observed_if (b k) (local (place s k).at))) 0 (place s k) y) c.from_fn-self.ensures.items (λ i y q k. search rules) idle_place in
+    swept_after (poison_effect v) s r shaped c.from_fn-self.ensures.items.long refl refl refl
+    (λ k l. poison_at v k (b k) (local (place s k).at) (observed_as s f b k (c.counted-counted.ensures k l)) (place s k) (place r k) (each k l))
+    (poison_past s shaped f) (λ k. refl) (λ k. refl)

@@ -1,12 +1,15 @@
-use Rattle.std.proofs.Common.{arith, length-set}
+use Rattle.std.proofs.Common.{ℕ, Bool, subst, rules}
+use Rattle.rules.specs.Tests.{ready_at}
 use Rattle.tables.specs.Views.{table}
 use Rattle.board.specs.Views.{portless}
-use Rattle.board.proofs.Backward.{ready_written}
+use Rattle.board.specs.Loops.{AnsweredFrom}
+use Rattle.board.proofs.Backward.{ready_settled}
 use Rattle.board.proofs.state.State.ready.Goals as goal
 
-pub loop-p-preserved : goal.loop-p-preserved
-loop-p-preserved c = (
-  simp length-set c.loop-p.invariant.0,
-  ready_written (table c.args.t.now) (portless c.args.self.now) c.args.h c.args.t.now.lower
-      c.loop-p.out c.loop-p.p _ _ (omega arith) (omega arith) (omega arith) c.loop-p.invariant.1 c.ready_one-r.ensures,
-)
+pub returns : goal.returns
+returns c =
+    let t = table c.args.t.now in
+    let s = portless c.args.self.now in
+    let g : ℕ → (ℕ → Bool) → Bool = λ p r. ready_at t s c.args.h p r (s.at p) in
+    ready_settled t s c.args.h c.args.t.now.lower c.backward.result
+    (subst (λ (n : ℕ). AnsweredFrom g n c.backward.result 0) c.place_count.ensures.is (c.backward.ensures g (λ p later r k. search rules)))

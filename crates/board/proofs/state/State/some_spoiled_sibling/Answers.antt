@@ -1,21 +1,16 @@
-use Rattle.std.proofs.Common.{false, ◌||◌, sym, refl, ap, arith}
+use Rattle.std.proofs.Common.{◌-◌, refl, rules, tests}
 use Rattle.std.proofs.lemmas.Bool.{and_right}
-use Rattle.board.specs.Loops.{spoiled_sibling}
+use Rattle.std.proofs.lemmas.Iterator.{YieldsList-from_range}
+use Rattle.std.proofs.lemmas.Iterator.Search.{any_from_yields_List}
 use Rattle.tables.specs.Views.{table}
 use Rattle.board.specs.Views.{portless, flags}
-use Rattle.tables.proofs.Counts.{any_more, any_found, any_end}
+use Rattle.board.specs.Loops.{spoiled_sibling}
+use Rattle.board.proofs.Searches.{any_child}
 use Rattle.board.proofs.state.State.some_spoiled_sibling.Goals as goal
-
-pub loop-c-init : goal.loop-c-init
-loop-c-init c = ap (λ b. b || false) (and_right _ _ refl)
-
-pub loop-c-preserved : goal.loop-c-preserved
-loop-c-preserved c = any_more (spoiled_sibling (table c.args.t.now) (portless c.args.self.now) c.args.p (flags c.args.spoiled.now)) _ c.loop-c.invariant (sym c.if-spoiled_sibling.ensures)
-
-pub returns-then-spoiled_sibling : goal.returns-then-spoiled_sibling
-returns-then-spoiled_sibling c =
-    sym (any_found (spoiled_sibling (table c.args.t.now) (portless c.args.self.now) c.args.p (flags c.args.spoiled.now)) (table c.args.t.now).places c.loop-c.c (omega arith) (sym c.if-spoiled_sibling.ensures))
 
 pub returns : goal.returns
 returns c =
-    any_end (spoiled_sibling (table c.args.t.now) (portless c.args.self.now) c.args.p (flags c.args.spoiled.now)) c.loop-c.c (table c.args.t.now).places (omega arith) c.loop-c.invariant
+    let n = c.place_count.result in
+    let f = spoiled_sibling (table c.args.t.now) (portless c.args.self.now) c.args.p (flags c.args.spoiled.now) in
+    any_child f n _ c.place_count.ensures.some c.place_count.ensures.is _ (and_right _ _ refl)
+    (any_from_yields_List f _ _ _ c.any.ensures.ran (YieldsList-from_range 1 n (n - 1) refl refl) (λ x b q k. search (rules, tests)))

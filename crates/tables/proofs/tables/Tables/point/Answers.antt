@@ -1,6 +1,9 @@
-use Rattle.std.proofs.Common.{vec_items, arith}
-use Rattle.tables.proofs.Reading.{past}
+use Rattle.std.proofs.Common.{List, vec_items, subst}
+use Rattle.std.specs.Slice.{IsItemAt}
+use Rattle.tables.specs.declared.rows.Point.{Point}
+use Rattle.tables.proofs.Reading.{looked}
 use Rattle.tables.proofs.tables.Tables.point.Goals as goal
 
-pub returns-else-i-len : goal.returns-else-i-len
-returns-else-i-len c = past (vec_items c.args.self.now.points) c.args.x (omega arith)
+pub returns : goal.returns
+returns c =
+    looked (vec_items c.args.self.now.points) c.args.x c.get.result (subst (λ (v : List Point). IsItemAt v c.args.x c.get.result) c.deref.ensures.value c.get.ensures.lookup)
