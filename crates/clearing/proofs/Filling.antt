@@ -1,14 +1,13 @@
 -- A clear that is refused, and one that is not.
-use Rattle.std.proofs.Common.{◌≡◌, ℕ, List, Ok, Err, sym, subst}
+use Rattle.std.proofs.Common.{◌≡◌, ℕ, List, Ok, sym, subst}
 use Rattle.numbers.specs.Kinds.{Meaning}
 use Rattle.numbers.specs.Literals.{literal_reading}
-use Rattle.reader.specs.declared.fault.Error.{Error}
 use Rattle.reader.specs.Faults.{Answer, Meets}
 use Rattle.tables.specs.declared.tables.Tables.{Tables}
 use Rattle.program.specs.Layout as laid
-use Rattle.program.specs.Clearing.{cleared, fresh, left}
+use Rattle.program.specs.Clearing.{cleared, left}
 use Rattle.layout.specs.Shown.{Shows}
-use Rattle.names.proofs.Declaring.{met_ok, met_err}
+use Rattle.names.proofs.Declaring.{met_ok}
 use Rattle.clearing.specs.declared.programs.Program.{Program}
 use Rattle.clearing.specs.Cleared.{statements_of, Holds, Cleared}
 
@@ -18,16 +17,6 @@ Laid v p = Shows v.0 p × (v.1 ≡ statements_of p)
 
 abbrev Any : Unit {0} → laid.Program → Type 0
 Any u p = Unit {0}
-
-pub clear_refused : {K : Type 0} (k : Meaning) (x y : Program K) (text : List ℕ) (e : Error)
-    → Meets Laid (Err e) (cleared (literal_reading k) text) → Shows y.tables fresh → y.statements ≡ 0 → y.kind ≡ x.kind
-    → Cleared k x text (Err e) y
-clear_refused k x y text e h s n i =
-    record {
-      answers = met_err Laid Any e (cleared (literal_reading k) text) h;
-      leaves = record { shows = s; counts = n };
-      same_kind = i;
-    }
 
 pub clear_granted : {K : Type 0} (k : Meaning) (x y : Program K) (text : List ℕ)
     → Meets Laid (Ok (y.tables, y.statements)) (cleared (literal_reading k) text) → y.kind ≡ x.kind

@@ -1,8 +1,7 @@
 -- From the unfolded text to the program that the definition of clearing has.
 use Rattle.std.proofs.Common.{◌≡◌, ℕ, suc, List, [], Ok, Err, refl, ap, ◌∙◌, subst, arith, length-append}
 use Rattle.reader.specs.Faults.{Answer, ◌>>=◌}
-use Rattle.reader.specs.Tokens.{Lexeme, tokenized}
-use Rattle.grammar.specs.Trees.{Tree, Proc}
+use Rattle.reader.specs.Tokens.{tokenized}
 use Rattle.grammar.specs.Parsing.{parsed}
 use Rattle.names.specs.Naming.{Reading, named}
 use Rattle.rules.specs.Soundness.{Sound}
@@ -21,32 +20,20 @@ use Rattle.clearing.specs.Cleared.{statements_of}
 use Rattle.clearing.specs.Stages.{tree_of, nodes_of, nodes_in}
 
 -- the layout is all that the definition adds
-shared_then : (us : Nodes) (a : Answer (Unit {0})) → (a >>= (λ u. Ok (laid_out us))) ≡ (a >>= (λ u. Ok us) >>= (λ vs. Ok (laid_out vs)))
-shared_then us (Ok u) = refl
-shared_then us (Err f) = refl
+onto : {A : Type 0} (a : Answer A) (f : A → Answer Program) (g : A → Answer Nodes) → ((x : A) → f x ≡ (g x >>= (λ us. Ok (laid_out us))))
+    → (a >>= f) ≡ (a >>= g >>= (λ us. Ok (laid_out us)))
+onto (Ok x) f g h = h x
+onto (Err e) f g h = refl
 
-unfolded_then : (a : Answer Nodes)
-    → (a >>= (λ us. sharing [] us >>= (λ u. Ok (laid_out us)))) ≡ (a >>= (λ us. sharing [] us >>= (λ u. Ok us)) >>= (λ vs. Ok (laid_out vs)))
-unfolded_then (Ok us) = shared_then us (sharing [] us)
-unfolded_then (Err f) = refl
-
-named_then : (l : Reading) (t : Tree) (a : Answer (List Proc))
-    → (a >>= (λ ps. unfolded l ps t.main >>= (λ us. sharing [] us >>= (λ u. Ok (laid_out us)))))
-    ≡ (a >>= (λ ps. unfolded l ps t.main >>= (λ us. sharing [] us >>= (λ u. Ok us))) >>= (λ vs. Ok (laid_out vs)))
-named_then l t (Ok ps) = unfolded_then (unfolded l ps t.main)
-named_then l t (Err f) = refl
-
-parsed_then : (l : Reading) (a : Answer Tree) → (a >>= (λ t. program_of l t)) ≡ (a >>= (λ t. nodes_of l t) >>= (λ vs. Ok (laid_out vs)))
-parsed_then l (Ok t) = named_then l t (named l t)
-parsed_then l (Err f) = refl
-
-read_then : (l : Reading) (a : Answer (List Lexeme))
-    → (a >>= (λ ts. parsed ts >>= (λ t. program_of l t))) ≡ (a >>= (λ ts. parsed ts) >>= (λ t. nodes_of l t) >>= (λ vs. Ok (laid_out vs)))
-read_then l (Ok ts) = parsed_then l (parsed ts)
-read_then l (Err f) = refl
+grouped : {A B C : Type 0} (a : Answer A) (f : A → Answer B) (g : B → Answer C) → (a >>= (λ x. f x >>= g)) ≡ (a >>= f >>= g)
+grouped (Ok x) f g = refl
+grouped (Err e) f g = refl
 
 pub laid_by : (l : Reading) (bs : List ℕ) → cleared l bs ≡ (nodes_in l bs >>= (λ us. Ok (laid_out us)))
-laid_by l bs = read_then l (tokenized bs)
+laid_by l bs =
+    grouped (tokenized bs) parsed (program_of l)
+    ∙ onto (tree_of bs) (program_of l) (nodes_of l)
+    (λ t. onto (named l t) _ _ (λ ps. onto (unfolded l ps t.main) _ _ (λ us. onto (sharing [] us) _ _ (λ u. refl))))
 
 pub cleared_to : (l : Reading) (bs : List ℕ) (us : Nodes) → nodes_in l bs ≡ Ok us → cleared l bs ≡ Ok (laid_out us)
 cleared_to l bs us e = laid_by l bs ∙ ap (λ (a : Answer Nodes). a >>= (λ vs. Ok (laid_out vs))) e

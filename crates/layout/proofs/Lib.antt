@@ -1,6 +1,4 @@
-pub mod Bringing
 pub mod Fitting
-pub mod Giving
 pub mod Knowing
 pub mod Looking
 pub mod Nearest
