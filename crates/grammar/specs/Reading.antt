@@ -1,4 +1,4 @@
--- What code answers that reads tokens from an index on, against the parsers.
+-- What code answers that reads tokens from the front, against the parsers.
 use Rattle.std.specs.Prelude.{◌≡◌, ℕ, ◌<◌, ◌≤◌, List, [], ◌∷◌, ◌++◌, length, IfOk, Ok, Err, Result}
 use Rattle.std.proofs.Math.Option.{Option, some, none}
 use Rattle.std.specs.declared.option.Option as std-option
