@@ -125,9 +125,9 @@ impl<'a> Plan<'a> {
                 let catches = inner_catches(self.heap, part, j, inside)?;
                 let tries = inner_tries(self.heap, part, j, inside)?;
                 let within = Inside {
-                    place: inside.place,
-                    catches: catches.as_slice(),
-                    tries: tries.as_slice(),
+                    catches: &catches,
+                    tries: &tries,
+                    ..*inside
                 };
                 self.put_block(rows, &within, first, after)?;
                 self.put_block(rows, inside, second, k)
@@ -198,7 +198,7 @@ impl<'a> Plan<'a> {
                 let within = Inside {
                     place: q,
                     catches: &[],
-                    tries: inside.tries,
+                    ..*inside
                 };
                 self.put_block(rows, &within, us, self.ends + q)?;
                 self.put_branches(rows, inside, x, rest)
