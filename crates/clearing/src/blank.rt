@@ -1,31 +1,20 @@
 // The tables of `main { }`.
-ghost use Rattle.std.specs.Prelude.{◌≡◌, IfOk};
+ghost use Rattle.std.specs.Prelude.{IfOk};
 ghost use Rattle.program.specs.Clearing.{fresh as empty_main};
 ghost use Rattle.layout.specs.Shown.{Shows};
-ghost use Rattle.tables.specs.Fit.{no_place};
 
 use std::alloc::{AllocError, Global};
 use tables::rows::Place;
 use tables::tables::Tables;
 
-// The main block: it has itself as parent, and its end, which stands past the last point, is its first point.
-fn main_block() -> Place
-    ensures { result ≡ no_place }
-{
-    Place {
-        parent: 0,
-        under: 0,
-        start: 0,
-    }
-}
-
-// New tables of `main { }`.
+// New tables of `main { }`. The main block has itself as parent, and its end, which stands past the last point, is its
+// first point.
 pub fn blank_tables(heap: Global) -> Result<Tables, AllocError>
     ensures { IfOk result (λ t. Shows t empty_main) }
 {
     Ok(Tables {
         points: Vec::new(heap),
-        places: vec![in heap; main_block()]?,
+        places: vec![in heap; Place::default()]?,
         cells: Vec::new(heap),
         got: Vec::new(heap),
     })
@@ -39,5 +28,5 @@ pub fn reset_tables(tables: &mut Tables)
     tables.cells.clear();
     tables.got.clear();
     tables.places.truncate(1);
-    tables.places[0] = main_block();
+    tables.places[0] = Place::default();
 }

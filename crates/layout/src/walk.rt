@@ -67,6 +67,7 @@ pub struct Plan<'a> {
     pub text: &'a [u8],
     pub heap: Global,
     pub ends: u16,
+    ghost last: { ends ≤ 1024 },
 }
 
 impl<'a> Plan<'a> {
@@ -100,7 +101,6 @@ impl<'a> Plan<'a> {
         requires fit { node_fits (node self.now.text.now u.now) ≡ true }
         requires few { length rows.old.places.items + node_places (node self.now.text.now u.now) ≤ 64 }
         requires short { length rows.old.points.items + node_size (node self.now.text.now u.now) ≤ 1024 }
-        requires last { self.now.ends ≤ 1024 }
         requires open { length inside.now.catches.now ≤ length rows.old.points.items }
         ensures points { OnOk result (length rows.new.points.items ≡ length rows.old.points.items + node_size (node self.now.text.now u.now)) }
         ensures places { OnOk result (length rows.new.places.items ≡ length rows.old.places.items + node_places (node self.now.text.now u.now)) }
@@ -125,9 +125,9 @@ impl<'a> Plan<'a> {
                 let catches = inner_catches(self.heap, part, j, inside)?;
                 let tries = inner_tries(self.heap, part, j, inside)?;
                 let within = Inside {
-                    place: inside.place,
-                    catches: catches.as_slice(),
-                    tries: tries.as_slice(),
+                    catches: &catches,
+                    tries: &tries,
+                    ..*inside
                 };
                 self.put_block(rows, &within, first, after)?;
                 self.put_block(rows, inside, second, k)
@@ -152,7 +152,6 @@ impl<'a> Plan<'a> {
         requires fit { fits (meant self.now.text.now us.now) ≡ true }
         requires few { length rows.old.places.items + how_many (meant self.now.text.now us.now) ≤ 64 }
         requires short { length rows.old.points.items + size (meant self.now.text.now us.now) ≤ 1024 }
-        requires last { self.now.ends ≤ 1024 }
         requires open { length inside.now.catches.now ≤ length rows.old.points.items }
         ensures points { OnOk result (length rows.new.points.items ≡ length rows.old.points.items + size (meant self.now.text.now us.now)) }
         ensures places { OnOk result (length rows.new.places.items ≡ length rows.old.places.items + how_many (meant self.now.text.now us.now)) }
@@ -181,7 +180,6 @@ impl<'a> Plan<'a> {
         requires fit { branches_fit (all self.now.text.now branches.now) ≡ true }
         requires few { length rows.old.places.items + branch_places (all self.now.text.now branches.now) ≤ 64 }
         requires short { length rows.old.points.items + branch_size (all self.now.text.now branches.now) ≤ 1024 }
-        requires last { self.now.ends ≤ 1024 }
         ensures points { OnOk result (length rows.new.points.items ≡ length rows.old.points.items + branch_size (all self.now.text.now branches.now)) }
         ensures places { OnOk result (length rows.new.places.items ≡ length rows.old.places.items + branch_places (all self.now.text.now branches.now)) }
         ensures rows { OnOk result (so_far rows.new ≡ more (so_far rows.old) (branch_rows self.now.ends inside.now.place x (all_held self.now.text.now inside.now.tries.now) (all self.now.text.now branches.now) (length rows.old.places.items) (length rows.old.points.items))) }
@@ -200,7 +198,7 @@ impl<'a> Plan<'a> {
                 let within = Inside {
                     place: q,
                     catches: &[],
-                    tries: inside.tries,
+                    ..*inside
                 };
                 self.put_block(rows, &within, us, self.ends + q)?;
                 self.put_branches(rows, inside, x, rest)

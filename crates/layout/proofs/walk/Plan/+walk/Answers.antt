@@ -74,12 +74,12 @@ put_node-returns-in_ok-put_block-in-Two-clause-rows t c =
     is (ap (nodes text) c.deref-in-Two.ensures) (ap (nodes text) c.deref-in-Two-3.ensures) (ap (nodes text) c.deref-in-Two-2.ensures)
     c.requires.short (omega arith) (c.block_extent.ensures.statements text) (c.entry-i.ensures text) (c.entry-j.ensures text) in
     two_laid c.put_block-in-Two.result c.args.self.now.ends p cs rs q o k u c.in-Two.at ns (news text c.deref-in-Two-4.result.now) h
-    a (nodes text c.deref-in-Two-5.result.now) b (nodes text c.deref-in-Two-6.result.now) (stm p c.in_ok-stmt-in-Two.stmt) after c.entry-i.result c.entry-j.result
-    c.as_slice.result.now (all_held text c.as_slice-in-Two.result.now)
+    a (nodes text c.deref-in-Two-7.result.now) b (nodes text c.deref-in-Two-8.result.now) (stm p c.in_ok-stmt-in-Two.stmt) after c.entry-i.result c.entry-j.result
+    c.deref-in-Two-5.result.now (all_held text c.deref-in-Two-6.result.now)
     (length (vec_items fst.places)) (length (vec_items fst.points)) (length (vec_items mid.places)) (length (vec_items mid.points))
     (rows was) (rows fst) (rows mid) (rows c.put_block-in-Two.new.rows)
-    is (ap (news text) c.deref-in-Two-4.ensures.value) (ap (nodes text) c.deref-in-Two-5.ensures) (ap (nodes text) c.deref-in-Two-6.ensures)
+    is (ap (news text) c.deref-in-Two-4.ensures.value) (ap (nodes text) c.deref-in-Two-7.ensures) (ap (nodes text) c.deref-in-Two-8.ensures)
     (c.leads_to-after.ensures text ∙ ap (λ (m : ℕ). part_after h m k) (let e : c.next_point-o.result ≡ o = omega arith in e)) n.0 n.1 (c.in_ok-stmt-in-Two.ensures text p)
-    (c.as_slice.ensures.value ∙ c.in_ok-catches-in-Two.ensures text) (ap (all_held text) c.as_slice-in-Two.ensures.value ∙ c.in_ok-tries-in-Two.ensures text)
+    (c.deref-in-Two-5.ensures.value ∙ c.in_ok-catches-in-Two.ensures text) (ap (all_held text) c.deref-in-Two-6.ensures.value ∙ c.in_ok-tries-in-Two.ensures text)
     c.in_ok-put_statement-in-Two.ensures.places c.in_ok-put_statement-in-Two.ensures.points c.in_ok-put_block-in-Two.ensures.places c.in_ok-put_block-in-Two.ensures.points
     c.in_ok-put_statement-in-Two.ensures.rows c.in_ok-put_block-in-Two.ensures.rows c.put_block-in-Two.ensures.rows
