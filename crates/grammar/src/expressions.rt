@@ -44,7 +44,8 @@ fn operator(rank: u8, tag: Tag) -> Option<Operator>
 }
 
 impl<'a> Parser<'a> {
-    // An expression whose operators have at most a rank; all of them group to the left.
+    // An expression whose operators have at most a rank; all of them group to the left. A rank is a number and no enum:
+    // what stands beside an operator is an expression of the rank below.
     #[cycle(expressions)]
     pub fn level(&mut self, room: usize, rank: u8) -> Result<Expr, Error>
         ensures tells { Reads view-exp (level_at room rank) self.old.rest.now self.new.rest.now result }

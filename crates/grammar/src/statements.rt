@@ -100,7 +100,8 @@ impl<'a> Parser<'a> {
         two(self.heap, offset, Head::Plain, body, Block::Nil)
     }
 
-    // What stands after `if`.
+    // What stands after `if`. Here and below the offset is where the statement began and `room` is how many brackets may
+    // still be opened: no struct of the two would outlive a call.
     #[cycle(blocks)]
     fn if_statement(&mut self, room: usize, offset: usize) -> Result<Stmt, Error>
         ensures tells { Reads view-stm (if_at room offset) self.old.rest.now self.new.rest.now result }

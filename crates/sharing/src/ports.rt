@@ -10,7 +10,8 @@ use crate::apart::are_apart;
 use reader::fault::{Cause, Fault, must};
 use unfold::nodes::{Branches, Node, Nodes, Part};
 
-// Whether the port before the blocks of a statement passes a test.
+// Whether the port before the blocks of a statement passes a test. Each part of the walk asks that the test may be called,
+// since only a clause can say that of a parameter.
 fn part_any<F: Fn(usize) -> bool>(part: &Part, test: &F) -> bool
     requires { F.IsAlwaysCallable test.now }
     ensures { (t : ℕ → Bool) → Tells (F.post test.now) t → result ≡ part_any t part.now }
