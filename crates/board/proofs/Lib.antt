@@ -6,3 +6,4 @@ pub mod Scanning
 pub mod Searches
 pub mod Sweeps
 pub mod Upward
+pub mod Turns

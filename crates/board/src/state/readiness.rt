@@ -1,6 +1,5 @@
 // Which places are ready for a home.
 ghost use Rattle.std.specs.Prelude.{◌≡◌, ℕ, ◌<◌, false, slice_index_or};
-ghost use Rattle.rules.specs.Moves.{any_below};
 ghost use Rattle.rules.specs.Tests.{knowing_child, ready_at, ready};
 ghost use Rattle.tables.specs.Views.{table};
 ghost use Rattle.board.specs.Views.{local, place, portless, flags};
@@ -19,19 +18,21 @@ impl State {
         t.child(p, c) && self.places[c].at.is_live() && t.knows(c, h)
     }
 
-    // Whether some live child of `p` knows `h`.
-    pub(crate) fn some_child_knows(&self, t: &Tables, h: usize, p: usize) -> bool
-        ensures { result ≡ any_below (table t.now).places (knowing_child (table t.now) (portless self.now) h p) }
-    {
-        (1..t.place_count()).any(|c| self.knowing_child(t, h, p, c))
-    }
-
     // Whether some live child knows `h` and every live child that knows `h` is ready, given the answers for them.
+    // Readiness and spoiling loop with index over the places: a rule of the project.
     fn children_ready(&self, t: &Tables, h: usize, p: usize, later: &[bool; 64]) -> bool
         ensures { result ≡ children_ready (table t.now) (portless self.now) h p (flags later.now) }
     {
-        self.some_child_knows(t, h, p)
-            && (1..t.place_count()).all(|c| !self.knowing_child(t, h, p, c) || later[c])
+        let mut some = false;
+        for c in 1..t.place_count() {
+            if self.knowing_child(t, h, p, c) {
+                if !later[c] {
+                    return false;
+                }
+                some = true;
+            }
+        }
+        some
     }
 
     // Whether `p` is ready for `h`, given the answers for the places after it.

@@ -19,11 +19,20 @@ impl State {
     }
 
     // Whether no live child of `q` knows `h`, or some live child is spoiled, given the answers for them.
+    // A loop with index, as for readiness.
     fn spoiled_through(&self, t: &Tables, h: usize, q: usize, later: &[bool; 64]) -> bool
         ensures { result ≡ spoiled_through (table t.now) (portless self.now) h q (flags later.now) }
     {
-        !self.some_child_knows(t, h, q)
-            || (1..t.place_count()).any(|c| self.spoiled_child(t, q, c, later))
+        let mut some = false;
+        for c in 1..t.place_count() {
+            if self.spoiled_child(t, q, c, later) {
+                return true;
+            }
+            if self.knowing_child(t, h, q, c) {
+                some = true;
+            }
+        }
+        !some
     }
 
     // Whether `q` is spoiled for `h`, given the answers for the places after it: it knows `h`, and it is poisoned,

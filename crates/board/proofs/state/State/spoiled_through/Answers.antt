@@ -1,18 +1,32 @@
-use Rattle.std.proofs.Common.{◌-◌, not, ◌||◌, sym, ap, ◌∙◌, refl, rules, tests}
-use Rattle.std.proofs.lemmas.Iterator.{YieldsList-from_range}
-use Rattle.std.proofs.lemmas.Iterator.Search.{any_from_yields_List}
-use Rattle.rules.specs.Moves.{any_below}
+use Rattle.std.proofs.Common.{sym, refl, ◌∙◌, arith}
+use Rattle.rules.specs.Tests.{knowing_child}
+use Rattle.std.proofs.lemmas.Bool.{or_right}
+use Rattle.board.specs.Loops.{spoiled_child}
 use Rattle.tables.specs.Views.{table}
 use Rattle.board.specs.Views.{portless, flags}
-use Rattle.board.specs.Loops.{spoiled_child}
-use Rattle.board.proofs.Searches.{any_child}
+use Rattle.board.proofs.Turns.{any_more, any_found, any_took, any_left, through_end}
 use Rattle.board.proofs.state.State.spoiled_through.Goals as goal
+use Rattle.board.proofs.state.State.spoiled_through.Goals.{then-knowing_child, else-knowing_child}
 
-pub returns-else-not-some_child_knows : goal.returns-else-not-some_child_knows
-returns-else-not-some_child_knows c =
-    let n = c.place_count.result in
-    let t = table c.args.t.now in
-    let g = spoiled_child t (portless c.args.self.now) c.args.q (flags c.args.later.now) in
-    any_child g n t.places c.place_count.ensures.some c.place_count.ensures.is _ refl
-    (any_from_yields_List g _ _ c.any.result c.any.ensures.ran (YieldsList-from_range 1 n (n - 1) refl refl) (λ x b q k. search (rules, tests)))
-    ∙ ap (λ b. not b || any_below t.places g) (sym c.if-not-some_child_knows.false ∙ c.some_child_knows.ensures)
+pub loop-c-init : goal.loop-c-init
+loop-c-init c = (refl, refl)
+
+pub loop-c-preserved : goal.loop-c-preserved
+loop-c-preserved c =
+    let f = knowing_child (table c.args.t.now) (portless c.args.self.now) c.args.h c.args.q in (
+      elim c.if-knowing_child.branch [
+        | then-knowing_child w ↦ w.some-is ∙ any_took f _ (sym w.if-knowing_child.ensures)
+        | else-knowing_child w ↦ w.some-is ∙ any_left f _ _ c.loop-c.invariant.0 (sym w.if-knowing_child.ensures)
+      ],
+      any_more (spoiled_child (table c.args.t.now) (portless c.args.self.now) c.args.q (flags c.args.later.now)) _ c.loop-c.invariant.1 (sym c.if-spoiled_child.ensures),
+    )
+
+pub returns-then-spoiled_child : goal.returns-then-spoiled_child
+returns-then-spoiled_child c =
+    sym (or_right _ _ (any_found (spoiled_child (table c.args.t.now) (portless c.args.self.now) c.args.q (flags c.args.later.now)) (table c.args.t.now).places c.loop-c.c (omega arith) (sym c.if-spoiled_child.ensures)))
+
+pub returns : goal.returns
+returns c =
+    through_end (knowing_child (table c.args.t.now) (portless c.args.self.now) c.args.h c.args.q)
+    (spoiled_child (table c.args.t.now) (portless c.args.self.now) c.args.q (flags c.args.later.now))
+    c.loop-c.c (table c.args.t.now).places c.loop-c.some (omega arith) c.loop-c.invariant.0 c.loop-c.invariant.1
