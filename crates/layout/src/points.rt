@@ -31,7 +31,8 @@ pub fn push_point(
     Ok(())
 }
 
-// The ends of n places, where that of the place q is the point e + q.
+// The ends of n places, where that of the place q is the point e + q: a loop over the places' numbers, each of which it
+// writes.
 pub fn push_ends(heap: Global, out: &mut Vec<Point>, e: u16, n: u16) -> Result<(), AllocError>
     requires { e + n ≤ 2048 }
     ensures { OnOk result (point_rows out.new.items ≡ point_rows out.old.items ++ ended e 0 n) }

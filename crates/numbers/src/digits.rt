@@ -6,7 +6,8 @@ pub mod writing;
 // Ten digits and a sign.
 const LONGEST: usize = 11;
 
-// The bytes from index `from` on. A fixed array with its start and no `ArrayVec`, so that a written form is `Copy`.
+// The bytes from index `from` on. A fixed array with its start: nothing may be allocated where a
+// word is written, and an `ArrayVec` is not `Copy`.
 #[derive(Clone, Copy)]
 pub struct Digits {
     bytes: [u8; LONGEST],

@@ -70,8 +70,8 @@ fn equal_at(text: &[u8], at: usize) -> Token
     requires { at < length text.now }
     ensures { result ≡ equal_token text.now at }
 {
-    match text.get(at + 1) {
-        Some(b'=') => Token {
+    match text.get(at + 1).map(|b| *b as char) {
+        Some('=') => Token {
             tag: Tag::Equals,
             at,
             len: 2,

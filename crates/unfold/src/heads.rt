@@ -12,7 +12,7 @@ use numbers::kind::NumberKind;
 use numbers::literal::literal_value;
 use reader::fault::{Cause, Error};
 
-// The port that digits name, if there is one.
+// The port that digits name, if there is one. The stage of names has a test of its own: it needs no port.
 fn port_number(text: &[u8], n: Name) -> Option<usize>
     ensures { result ≡ port_of (name text.now n).text }
 {

@@ -31,6 +31,7 @@ impl From<Got> for Binding {
 
 // Where a part of the text is unfolded: the text, the procedures and the variables that are visible there, and the heap.
 // The number kind is no field: only expressions read it, and each other method would be generic in it too.
+// The count goes in and comes out beside what was unfolded, as in the definition: it is what the next statement begins with.
 #[derive(Clone, Copy)]
 pub struct Scope<'a> {
     pub heap: Global,

@@ -21,6 +21,7 @@ use numbers::kind::NumberKind;
 use reader::fault::{Cause, Error};
 use std::alloc::Global;
 
+// Two boxes are written out where a node is put together: a helper for pairs would be as long at each call.
 impl<'a> Scope<'a> {
     #[cycle(unfolding)]
     fn unfold_simple<K: NumberKind>(

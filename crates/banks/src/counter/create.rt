@@ -9,7 +9,7 @@ use std::array;
 
 impl Counter {
     // At each port comes a count of words, the first of them the start, each later one a stride more modulo 2^32.
-    // The three arrays stay apart as parameters: callers have them so, and `Count` is not theirs to make.
+    // The three arrays stay apart as parameters: the rules give a counter by them, and callers' code stays as it is.
     pub fn new(start: [u32; 8], stride: [u32; 8], count: [u16; 8]) -> Counter
         ensures fields { (p : ℕ) → p < 8 → slice_index_or result.ports p no_count
             ≡ record { next = slice_index start p; stride = slice_index stride p; left = slice_index count p } }

@@ -18,7 +18,8 @@ fn stretch_of(memory: &[u32], first: usize, len: usize) -> &[u32]
 
 impl<'a> Tape<'a> {
     // At each port come the words of the memory from a first index for a length; none where they do not all lie inside it.
-    // The two arrays stay apart as parameters, and no slices come in their place: which ones lie inside is seen here.
+    // The two arrays stay apart as parameters: callers' code stays as it is. No slices come in their place: which parts lie
+    // inside the memory is decided here.
     pub fn new(memory: &'a [u32], first: [usize; 8], len: [usize; 8]) -> Tape<'a>
         ensures words { (p : ℕ) → tape.words result p ≡ tape_words memory.now first len p }
     {
