@@ -66,6 +66,8 @@ impl<'a> Parser<'a> {
         seq(self.heap, first, others)
     }
 
+    // One statement. It stays a call: what its kinds need on the stack is not held while the rest of a list is read.
+    #[inline(never)]
     #[cycle(blocks)]
     fn statement(&mut self, room: usize) -> Result<Stmt, Error>
         ensures tells { Reads view-stm (statement_at room) self.old.rest.now self.new.rest.now result }

@@ -24,12 +24,23 @@ pub fn part<'a>(text: &'a [u8], at: usize, len: usize) -> &'a [u8]
     &text[from..from + count]
 }
 
+// The text from an index on; none past its end.
+fn text_from(text: &[u8], from: usize) -> &[u8]
+    ensures { result.now ≡ drop from text.now }
+{
+    text.get(from..).unwrap_or(&[])
+}
+
 // How many bytes from an index on pass a test, one after the other.
+// Cut and not skipped: the library's `skip` steps over each byte before the index.
 fn run_len<F: Fn(u8) -> bool>(text: &[u8], from: usize, passes: F) -> usize
     requires { F.IsAlwaysCallable passes }
     ensures { (test : ℕ → Bool) → ((b : ℕ) (r : Bool) → F.post passes b r → r ≡ test b) → result ≡ length (tokens.run test (drop from text.now)) }
 {
-    text.iter().skip(from).take_while(|b| passes(**b)).count()
+    text_from(text, from)
+        .iter()
+        .take_while(|b| passes(**b))
+        .count()
 }
 
 // Where the separators from an index on end.
