@@ -1,11 +1,12 @@
 // What a part of a text is checked against.
 ghost use Rattle.std.specs.Prelude.{◌≡◌, []};
+ghost use Rattle.reader.specs.Tokens.{among};
 ghost use Rattle.grammar.specs.Views.{name, names};
 ghost use Rattle.names.specs.Naming.{find_proc, visible, undeclared, all_visible};
 ghost use Rattle.names.specs.Scopes.{arity};
 ghost use Rattle.names.specs.Checking.{vars_of, procs_of};
 
-use crate::visible::{find_proc, is_among};
+use crate::visible::find_proc;
 use grammar::tree::{Name, Proc};
 use reader::fault::{Cause, Fault, must};
 use std::alloc::Global;
@@ -34,26 +35,25 @@ impl<'a, K> Checker<'a, K> {
         }
     }
 
+    // Whether a variable of this name is visible, from the newest on, since what is used was mostly declared last.
+    fn sees(&self, n: Name) -> bool
+        ensures { result ≡ among (name self.now.text.now n).text (vars_of self.now) }
+    {
+        self.vars.iter().rev().any(|m| n.is_alike(self.text, *m))
+    }
+
     // A variable that is used has to be visible.
     pub fn check_visible(&self, n: Name) -> Result<(), Fault>
         ensures { result ≡ visible (vars_of self.now) (name self.now.text.now n) }
     {
-        must(
-            is_among(self.text, self.vars.as_slice(), n),
-            Cause::NotVisible,
-            n.at,
-        )
+        must(self.sees(n), Cause::NotVisible, n.at)
     }
 
     // A variable that is declared must not be visible.
     pub fn check_undeclared(&self, n: Name) -> Result<(), Fault>
         ensures { result ≡ undeclared (vars_of self.now) (name self.now.text.now n) }
     {
-        must(
-            !is_among(self.text, self.vars.as_slice(), n),
-            Cause::Redeclared,
-            n.at,
-        )
+        must(!self.sees(n), Cause::Redeclared, n.at)
     }
 
     // The arguments of a call.

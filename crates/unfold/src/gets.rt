@@ -22,11 +22,11 @@ pub struct Getting {
 }
 
 impl Getting {
-    // Whether a variable of this name was got.
+    // Whether a variable of this name was got, from the newest on, since what occurs again was mostly got last.
     fn has(&self, text: &[u8], n: Name) -> bool
         ensures { result ≡ among (name text.now n).text (had text.now self.now.got.items) }
     {
-        self.got.iter().any(|g| n.is_alike(text, g.name))
+        self.got.iter().rev().any(|g| n.is_alike(text, g.name))
     }
 
     // What an occurrence of a variable brings: nothing at a later one, or where the parent has no such variable.
