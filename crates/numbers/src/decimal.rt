@@ -1,5 +1,5 @@
 // Eight packed decimal digits of four bits, modulo 100,000,000.
-ghost use Rattle.std.specs.Prelude.{◌≡◌, ◌+◌, ◌-◌, ◌*◌, ◌^◌, ◌<◌, ◌≤◌};
+ghost use Rattle.std.specs.Prelude.{◌≡◌, ℕ, ◌+◌, ◌-◌, ◌*◌, ◌^◌, ◌<◌, ◌≤◌};
 ghost use Rattle.numbers.specs.Decimal.{packed_decimal, pack, unpack, packed, rebase};
 ghost use Rattle.numbers.specs.Packs.{decimal_lawful};
 
@@ -25,18 +25,41 @@ fn all_digits(k: u32, w: u32) -> bool
     }
 }
 
+// A base, as a type: a division by its constant is cheap, and one by a variable is not.
+trait Base {
+    ghost RADIX: { ℕ };
+
+    const RADIX: u32;
+}
+
+struct Ten;
+
+impl Base for Ten {
+    ghost RADIX = { 10 };
+
+    const RADIX: u32 = 10;
+}
+
+struct Sixteen;
+
+impl Base for Sixteen {
+    ghost RADIX = { 16 };
+
+    const RADIX: u32 = 16;
+}
+
 // The number that the k lowest digits of n in one base write in another.
-// A recursion as the definition goes: a `fold` over the digits has no bound on its total, so `to *` could overflow there.
-fn rebased(from: u32, to: u32, k: u32, n: u32) -> u32
-    requires from { 2 ≤ from }
-    requires to { 2 ≤ to }
-    requires fits { (from - 1) * to ^ k ≤ (to - 1) * 2 ^ 32 }
-    ensures { result ≡ rebase from to k n }
+// A recursion as the definition goes: a `fold` over the digits has no bound on its total, so `Target::RADIX *` could overflow there.
+fn rebased<Source: Base, Target: Base>(k: u32, n: u32) -> u32
+    requires from { 2 ≤ Source.RADIX }
+    requires to { 2 ≤ Target.RADIX }
+    requires fits { (Source.RADIX - 1) * Target.RADIX ^ k ≤ (Target.RADIX - 1) * 2 ^ 32 }
+    ensures { result ≡ rebase Source.RADIX Target.RADIX k n }
 {
     if k == 0 {
         0
     } else {
-        n % from + to * rebased(from, to, k - 1, n / from)
+        n % Source::RADIX + Target::RADIX * rebased::<Source, Target>(k - 1, n / Source::RADIX)
     }
 }
 
@@ -45,14 +68,14 @@ fn number_of(word: u32) -> u32
     ensures value { result ≡ unpack 8 word }
     ensures small { 3 * result + 5 ≤ 5 * 10 ^ 8 }
 {
-    rebased(16, 10, 8, word)
+    rebased::<Sixteen, Ten>(8, word)
 }
 
 // The word of a number's eight lowest digits.
 fn word_of(n: u32) -> u32
     ensures { result ≡ pack 8 n }
 {
-    rebased(10, 16, 8, n)
+    rebased::<Ten, Sixteen>(8, n)
 }
 
 impl NumberKind for Decimal {

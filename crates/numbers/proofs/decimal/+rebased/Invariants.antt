@@ -1,4 +1,4 @@
 use Rattle.numbers.proofs.decimal.+rebased.Given as goal
 
 abbrev pub decreases-rebased : goal.decreases-rebased
-decreases-rebased l = l.k
+decreases-rebased g l = l.k
