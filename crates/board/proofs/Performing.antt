@@ -1,15 +1,16 @@
 -- What each way of a step makes of a state.
-use Rattle.std.proofs.Common.{◌≡◌, ℕ, ◌+◌, ◌<◌, ◌≤◌, Bool, true, false, cond, eqb, List, length, get_or, set, sym, refl, ap, ◌∙◌, subst, inl, inr, zero-add, arith, length-set, get_or-set_other, get_or-set_same}
+use Rattle.std.proofs.Common.{◌≡◌, ℕ, ◌+◌, ◌<◌, ◌≤◌, Bool, true, false, cond, eqb, List, [], ◌∷◌, length, get_or, set, sym, refl, ap, ◌∙◌, subst, inl, inr, zero-add, arith, length-set, get_or-set_other, get_or-set_same}
 use mathlib.Core.Option
 use mathlib.Core.Option.{Option, some, none, map}
 use Rattle.std.proofs.lemmas.Bool.{ne_eqb, eq-eqb}
 use Rattle.rules.specs.Programs.{Table, elem}
 use Rattle.rules.specs.States.{Local, running, parted}
-use Rattle.rules.specs.Effects.{only, changed, one_at}
+use Rattle.rules.specs.Effects.{only, changed, one_at, later}
 use Rattle.rules.specs.Steps.{step_effect, Act, pass, fork}
 use Rattle.numbers.specs.Kinds.{Meaning}
 use Rattle.tables.specs.declared.stmt.Stmt.{Stmt}
 use Rattle.lemmas.proofs.Tests.{same?}
+use Rattle.banks.specs.Banks as banks
 use Rattle.board.specs.declared.state.Local as enum
 use Rattle.board.specs.declared.state.Local.TheVariants.{Running, Parted}
 use Rattle.board.specs.declared.state.PlaceState.{PlaceState}
@@ -126,6 +127,10 @@ only_is xs c w l d = get_d_set xs c d w 0 l ∙ go (eqb d c)
     go : (b : Bool) → cond b w (get_or xs d 0) ≡ Option.get_or (cond b (some w) none) (get_or xs d 0)
     go true = refl
     go false = refl
+
+pub later_same : (xs : List ℕ) → banks.rest xs ≡ later xs
+later_same [] = refl
+later_same (x ∷ xs) = refl
 
 -- the steps of places of which some were started
 pub forked_few : (start : ℕ → ℕ) (s : State) (bs : List ℕ) (n : ℕ) → length s.places ≡ 64 → places_in bs ≡ true → ((q : ℕ) → (place s q).steps ≤ n)

@@ -1,6 +1,6 @@
 -- A scan, one move at a time.
-use Rattle.std.proofs.Common.{◌≡◌, ℕ, zero, suc, ◌+◌, List, [], ◌∷◌, ◌++◌, length, true, None, Some, sym, refl, ap, ◌∙◌, subst, append_assoc, add-one, arith}
-use mathlib.Core.Option.{some}
+use Rattle.std.proofs.Common.{◌≡◌, ℕ, zero, suc, ◌+◌, ◌≤◌, List, [], ◌∷◌, ◌++◌, length, true, None, Some, sym, refl, ap, ◌∙◌, subst, append_assoc, add-one, arith}
+use mathlib.Core.Option.{some, none}
 use Rattle.std.specs.declared.option.Option as std
 use Rattle.std.specs.Option.{is_some}
 use Rattle.std.proofs.lemmas.Bool.{false≢true}
@@ -11,6 +11,11 @@ use Rattle.rules.specs.States.{Move}
 use Rattle.rules.specs.Listings.{nth, each}
 use Rattle.board.specs.declared.scan.Scan.{Scan}
 use Rattle.board.specs.Scans.{Scanned, listed}
+
+pub nth_past : (xs : List Move) (i : ℕ) → length xs ≤ i → nth xs i ≡ none
+nth_past [] i h = refl
+nth_past (x ∷ xs) zero h = absurd (omega arith)
+nth_past (x ∷ xs) (suc i) h = nth_past xs i (omega arith)
 
 pub nth_last : (xs : List Move) (m : Move) (i : ℕ) → i ≡ length xs → nth (xs ++ (m ∷ [])) i ≡ some m
 nth_last [] m zero h = refl

@@ -1,12 +1,20 @@
 -- Rows that are laid out one after another.
-use Rattle.std.proofs.Common.{◌≡◌, ℕ, suc, ◌+◌, ◌-◌, ◌^◌, ◌<◌, ◌≤◌, min, List, [], OnOk, Ok, Err, Result, sym, refl, ap, ◌∙◌, append_assoc, add-one, arith}
-use Rattle.std.proofs.lemmas.List.{map-append}
+use Rattle.std.proofs.Common.{◌≡◌, ℕ, suc, ◌+◌, ◌-◌, ◌^◌, ◌<◌, ◌≤◌, min, List, [], ◌∷◌, length, OnOk, Ok, Err, Result, sym, refl, ap, ◌∙◌, append_assoc, add-one, arith}
+use Rattle.std.proofs.lemmas.List.{map-append, length-append}
 use Rattle.rules.specs.Programs.{Stm}
-use Rattle.unfold.specs.Unfolded.{New, Got, Part, Node, two, Nodes, seq, Branches, also}
+use Rattle.unfold.specs.Unfolded.{New, Got, Part, plain, calls, tests, loops, tries, takes, Node, two, Nodes, seq, Branches, also}
 use Rattle.program.specs.Sizes.{node_size, size, branch_size, node_places, how_many, entry}
 use Rattle.program.specs.Layout.{Open, part_stm, part_after, part_catches, part_opens, node_placing, placing, branch_placing}
 use Rattle.layout.specs.Rows.{place_row}
 use Rattle.layout.specs.Walked.{Rows, more, statement_rows, begun, node_rows, block_rows, branch_rows}
+
+pub catches_length : (h : Part) (j : ℕ) (cs : List ℕ) → length (part_catches h j cs) ≤ suc (length cs)
+catches_length plain j cs = omega arith
+catches_length (calls ds rs) j cs = omega arith
+catches_length (tests e) j cs = omega arith
+catches_length (loops e) j cs = omega arith
+catches_length (tries n) j cs = omega (arith, length-append cs (j ∷ []))
+catches_length (takes i c) j cs = omega arith
 
 more_assoc : (a b c : Rows) → more (more a b) c ≡ more a (more b c)
 more_assoc a b c i =

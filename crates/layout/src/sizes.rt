@@ -71,6 +71,13 @@ fn branch_extent(branches: &Branches) -> Extent
     }
 }
 
+// How many statements a statement makes: it, and all that lie in it.
+pub fn node_statements(u: &Node) -> u16
+    ensures { (text : List ℕ) → result ≡ min (node_size (node text u.now)) (2 ^ 16 - 1) }
+{
+    node_extent(u).statements
+}
+
 // How many statements there are in a block.
 pub fn statements(us: &Nodes) -> u16
     ensures { (text : List ℕ) → result ≡ min (size (meant text us.now)) (2 ^ 16 - 1) }

@@ -2,3 +2,4 @@ pub mod Bases
 pub mod Literals
 pub mod ReadBack
 pub mod Readings
+pub mod Writing

@@ -1,11 +1,12 @@
 -- Literals: the value of the digits, one byte at a time.
-use Rattle.std.proofs.Common.{◌≡◌, ℕ, ◌+◌, ◌-◌, ◌*◌, ◌%◌, ◌^◌, ◌<◌, ◌≤◌, true, cond, Bor, List, [], ◌∷◌, length, Some, None, Option, refl, sym, subst, ap, ◌∙◌, add-one, pow-suc, arith, rules}
+use Rattle.std.proofs.Common.{◌≡◌, ℕ, ◌+◌, ◌-◌, ◌*◌, ◌%◌, ◌^◌, ◌<◌, ◌≤◌, true, false, cond, Bor, List, [], ◌∷◌, length, get_or, drop, Some, None, Option, refl, sym, subst, ap, ◌∙◌, add-one, pow-suc, arith, rules, drop-cons}
 use native.Mathlib.Nat.{pow-le-pow_right}
 use Rattle.std.specs.Fn.{Mut, Called}
 use Rattle.std.specs.List.{FoldsTo}
 use Rattle.std.specs.Option.{MatchOption}
 use Rattle.std.specs.Iterator.{Yields, YieldsThen, AlwaysYields}
 use Rattle.std.proofs.lemmas.Iterator.{YieldsList}
+use Rattle.std.proofs.lemmas.List.{drop_all}
 use Rattle.std.proofs.lemmas.Str.Parse.{IsNumeralModel, numerals_by_fold}
 use Rattle.std.proofs.lemmas.Bool.Decides.{nat_tests}
 use Rattle.numbers.specs.Literals.{value_of, is_digit, all_digits, digits_value}
@@ -16,6 +17,16 @@ own = numerals_by_fold _ (search rules) value_of (search rules)
 -- what digits write after those that wrote n, if they are digits
 abbrev pub read_on : ℕ → List ℕ → Option ℕ
 read_on n bs = cond (all_digits bs) (Some (value_of n bs)) None
+
+pub read_digit : (n i : ℕ) (bs : List ℕ) → i < length bs → 48 ≤ get_or bs i 0 → get_or bs i 0 ≤ 57
+    → read_on n (drop i bs) ≡ read_on (n * 10 + (get_or bs i 0 - 48)) (drop (i + 1) bs)
+read_digit n i bs h lo hi = rw (add-one, drop-cons bs i 0) (grind (arith, nat_tests))
+
+pub read_other : (n i : ℕ) (bs : List ℕ) → i < length bs → is_digit (get_or bs i 0) ≡ false → read_on n (drop i bs) ≡ None
+read_other n i bs h e = rw (drop-cons bs i 0, e) refl
+
+pub read_done : (n i : ℕ) (bs : List ℕ) → length bs ≤ i → read_on n (drop i bs) ≡ Some n
+read_done n i bs h = rw (drop_all i bs h) refl
 
 -- one byte more, modulo 2^64
 abbrev pub read_byte : ℕ → ℕ → Option ℕ

@@ -1,17 +1,17 @@
 -- Calls and pars, as the code makes them.
-use Rattle.std.proofs.Common.{◌≡◌, ℕ, suc, ◌+◌, ◌-◌, ◌^◌, ◌≤◌, min, Bool, true, false, ◌&&◌, leb, List, [], ◌∷◌, length, Ok, Result, sym, refl, ap, ◌∙◌, subst, arith, leb→le}
+use Rattle.std.proofs.Common.{◌≡◌, ℕ, suc, ◌+◌, ◌-◌, ◌^◌, ◌≤◌, min, Bool, true, false, ◌&&◌, leb, List, [], ◌∷◌, length, Ok, Result, sym, refl, ap, ◌∙◌, subst, arith, leb→le, length-append}
 use mathlib.Core.Path.{fun_ext}
 use native.Mathlib.Decide.{dec_lt}
 use Rattle.lemmas.proofs.Tests.{T_false}
 use Rattle.reader.specs.declared.fault.Cause.TheVariants.{OverLimit}
 use Rattle.reader.specs.declared.fault.Error.{Error}
 use Rattle.reader.specs.Faults.{Answer, must, ◌>>=◌}
-use Rattle.grammar.specs.Trees.{Stm, Par, Blocks, Proc}
+use Rattle.grammar.specs.Trees.{Stm, Par, Block, Blocks, Also, Proc}
 use Rattle.names.specs.Naming.{Reading}
 use Rattle.unfold.specs.declared.nodes.New as code-new
 use Rattle.unfold.specs.Unfolded.{New, Got, Node, par}
 use Rattle.unfold.specs.Scopes.{Env}
-use Rattle.unfold.specs.Variables.{ParamsOf, all_get, all_new}
+use Rattle.unfold.specs.Variables.{ParamsOf, uses_block, gets, got_new, all_get, all_new}
 use Rattle.unfold.specs.Unfolding.{Count, brings, branch_count, callees, params_of, unfold_stm, unfold_blocks}
 use Rattle.unfold.specs.Calls.{parted}
 use Rattle.unfold.specs.Occurrences.{visible_params}
@@ -61,6 +61,21 @@ par_step l ps v n at bs =
     let f : ◌≡◌ {A = ParamsOf} (λ x. params_of (callees l ps x)) (visible_params ps) = fun_ext (λ x. visible_is l ps x) in
     ap (λ (g : ParamsOf). F (all_get g v bs n.cells) (all_new (all_get g v bs n.cells))) f
     ∙ ap (λ (ns : List New). F (all_get (visible_params ps) v bs n.cells) ns) (all_new_any (visible_params ps) v bs n.cells 0)
+
+-- a par that fits: the new cells of the other branches are numbered after those of the first
+pub blocks_fit : (f : ParamsOf) (v : Env) (a : Block) (bs : Blocks) (first next : ℕ) (gs : List Got)
+    → first + length (all_new (all_get f v (Also a bs) first)) ≤ 128 → gs ≡ gets v (uses_block f a) (uses_block f a) [] first → next ≡ first + length (got_new gs)
+    → next + length (all_new (all_get f v bs next)) ≤ 128
+blocks_fit f v a bs first next gs h e k =
+    let g = gets v (uses_block f a) (uses_block f a) [] first in
+    let n = first + length (got_new g) in
+    let i : next ≡ n = k ∙ ap (λ (z : List Got). first + length (got_new z)) e in
+    let l = length-append (got_new g) (all_new (all_get f v bs n)) in
+    let j = ap (λ (z : ℕ). length (all_new (all_get f v bs z))) i in
+    omega arith
+
+pub also_fits : (f : ParamsOf) (v : Env) (a : Block) (bs : Blocks) (first : ℕ) → first + length (all_new (all_get f v (Also a bs) first)) ≤ 128 → first ≤ 128
+also_fits f v a bs first h = omega arith
 
 pub par_gives : {V : Type 0} (f : V → Node × Count) (r : Result V Error) (l : Reading) (ps : List Proc) (v : Env) (n : Count) (at : ℕ) (bs : Blocks) (s : Stm) → s ≡ Par at bs
     → Gives f r (parted l ps v n at bs) → Gives f r (unfold_stm l (callees l ps) v n s)

@@ -9,4 +9,4 @@ returns c =
     let ports = c.from_fn-ports.result in
     let f : ℕ → List ℕ = λ p. stretch memory.now (get_or c.args.first p 0) (get_or c.args.len p 0) in
     let each = at_each (λ p. (get_or ports p memory).now ≡ f p) (search rules) (search rules) (search rules) (search rules) (search rules) (search rules) (search rules) (search rules) in
-    record { words = listed_behind (λ s. s.now) ports f memory c.from_fn-ports.ensures.items.long each }
+    record { fields = each; words = listed_behind (λ s. s.now) ports f memory c.from_fn-ports.ensures.items.long each }
