@@ -24,17 +24,19 @@ pub fn part<'a>(text: &'a [u8], at: usize, len: usize) -> &'a [u8]
     &text[from..from + count]
 }
 
-// The text from an index on; none past its end.
+// The text from an index on.
 fn text_from(text: &[u8], from: usize) -> &[u8]
+    requires { from ≤ length text.now }
     ensures { result.now ≡ drop from text.now }
 {
-    text.get(from..).unwrap_or(&[])
+    &text[from..]
 }
 
 // How many bytes from an index on pass a test, one after the other.
 // Cut and not skipped: the library's `skip` steps over each byte before the index.
 fn run_len<F: Fn(u8) -> bool>(text: &[u8], from: usize, passes: F) -> usize
-    requires { F.IsAlwaysCallable passes }
+    requires within { from ≤ length text.now }
+    requires callable { F.IsAlwaysCallable passes }
     ensures { (test : ℕ → Bool) → ((b : ℕ) (r : Bool) → F.post passes b r → r ≡ test b) → result ≡ length (tokens.run test (drop from text.now)) }
 {
     text_from(text, from)
@@ -62,6 +64,7 @@ fn limited(tag: Tag, at: usize, len: usize, most: usize) -> Result<Token, Fault>
 
 // The name or reserved word that the letters and digits from an index on make.
 fn word_at(text: &[u8], at: usize) -> Result<Token, Fault>
+    requires { at < length text.now }
     ensures { Shows text.now at (word_first (tokens.run tokens.letter_or_digit (drop at text.now))) result }
 {
     let len = run_len(text, at, is_letter_or_digit);
@@ -70,6 +73,7 @@ fn word_at(text: &[u8], at: usize) -> Result<Token, Fault>
 
 // The number that the digits from an index on make.
 fn number_at(text: &[u8], at: usize) -> Result<Token, Fault>
+    requires { at < length text.now }
     ensures { Shows text.now at (tokens.up_to 10 tokens.number (tokens.run tokens.digit (drop at text.now))) result }
 {
     let len = run_len(text, at, is_digit);
