@@ -3,7 +3,7 @@ ghost use Rattle.std.specs.Prelude.{◌≡◌, ℕ, ◌+◌, ◌<◌, ◌^◌, L
 ghost use Rattle.program.specs.Sizes.{node_size, size, node_entry, entry as entered};
 ghost use Rattle.unfold.specs.Views.{node, nodes as meant};
 
-use crate::sizes::node_extent;
+use crate::sizes::node_statements;
 use unfold::nodes::{Node, Nodes, Part};
 
 // The first point of a statement, if o is where its points begin; a plain block may have none.
@@ -18,7 +18,7 @@ fn node_point(u: &Node, o: u16) -> Option<u16>
 }
 
 // The first point of a block, if o is where its points begin; none where no statement of it has one.
-// What stands behind the first point is not looked at: a block's statements are walked once for each of them.
+// What stands behind the first point is not looked at, since a walk asks this of the rest of a block at each statement.
 #[cycle(entries)]
 fn first_point(us: &Nodes, o: u16) -> Option<u16>
     ensures { (text : List ℕ) (k : ℕ) → o + size (meant text us.now) < 2 ^ 16 → MatchOption result (k ≡ entered (meant text us.now) o k) (λ x. x ≡ entered (meant text us.now) o k) }
@@ -26,7 +26,7 @@ fn first_point(us: &Nodes, o: u16) -> Option<u16>
     match us {
         Nodes::Nil => None,
         Nodes::Seq(u, rest) => match node_point(u, o) {
-            None => first_point(rest, o.saturating_add(node_extent(u).statements)),
+            None => first_point(rest, o.saturating_add(node_statements(u))),
             found => found,
         },
     }
